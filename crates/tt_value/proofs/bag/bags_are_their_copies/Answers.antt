@@ -1,0 +1,5 @@
+use Rattle.tt_value.specs.BagLaws.{bags_same}
+use Rattle.tt_value.proofs.bag.bags_are_their_copies.Goals as goal
+
+pub returns : goal.returns
+returns c = bags_same

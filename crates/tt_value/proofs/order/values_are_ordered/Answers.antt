@@ -1,0 +1,8 @@
+use Rattle.tt_value.specs.OrderLaws.{value_total, value_same}
+use Rattle.tt_value.proofs.order.values_are_ordered.Goals as goal
+
+pub returns-clause-total : goal.returns-clause-total
+returns-clause-total c = value_total
+
+pub returns-clause-ties : goal.returns-clause-ties
+returns-clause-ties c = value_same

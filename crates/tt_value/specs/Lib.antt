@@ -1,0 +1,9 @@
+pub mod BagLaws
+pub mod BagRows
+pub mod Calendar
+pub mod Order
+pub mod OrderLaws
+pub mod RowLaws
+pub mod RowText
+pub mod TextLaws
+pub mod TextValue

@@ -1,0 +1,37 @@
+use crate::sequence::Sequence;
+use crate::text::Text;
+
+/// What a column holds.
+#[derive(Clone, Copy, Debug, PartialEq, Eq)]
+pub enum Kind {
+    Int,
+    Date,
+    Varchar,
+}
+
+/// A value of a row. A date is a day number, day 0 being 1970-01-01.
+#[derive(Clone, Debug, Drop)]
+pub enum Value {
+    Null,
+    Int(i64),
+    Date(i32),
+    Text(Text),
+}
+
+#[derive(Clone, Debug, Drop)]
+pub struct Column {
+    pub name: Text,
+    pub kind: Kind,
+    pub nullable: bool,
+}
+
+#[derive(Clone, Debug, Drop)]
+pub struct Schema {
+    pub columns: Sequence<Column>,
+}
+
+/// One value for each column, in the order of the schema.
+#[derive(Clone, Debug, Drop)]
+pub struct Row {
+    pub values: Sequence<Value>,
+}
