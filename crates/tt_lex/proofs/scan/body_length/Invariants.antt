@@ -1,0 +1,6 @@
+use Rattle.std.proofs.Common.{◌≡◌, ◌≢◌, ℕ, ◌+◌, ◌<◌, get_or}
+use Rattle.tt_lex.proofs.scan.body_length.Given as goal
+
+-- no `*/` ends in front of this place
+abbrev pub invariant-loop-i : goal.invariant-loop-i
+invariant-loop-i l = (k : ℕ) → k + 1 < l.i → get_or l.rest k 0 ≡ 42 → get_or l.rest (k + 1) 0 ≢ 47

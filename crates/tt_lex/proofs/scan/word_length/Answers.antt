@@ -1,0 +1,10 @@
+use Rattle.std.proofs.Common.{length, sym, ◌∙◌, arith}
+use Rattle.std.proofs.lemmas.List.Sums.{prefix_len_is}
+use Rattle.tt_lex.specs.Lexis.{is_word_part}
+use Rattle.tt_lex.proofs.scan.word_length.Goals as goal
+
+pub returns-then-not-is_word_part : goal.returns-then-not-is_word_part
+returns-then-not-is_word_part c = sym (prefix_len_is is_word_part c.args.bytes.now c.loop-i.i 0 (omega arith) c.loop-i.invariant (λ _. sym c.is_word_part.ensures ∙ c.if-not-is_word_part.true))
+
+pub returns : goal.returns
+returns c = sym (prefix_len_is is_word_part c.args.bytes.now (length c.args.bytes.now) 0 (omega arith) (λ k h. c.loop-i.invariant k (omega arith)) (λ h. absurd (omega arith)))
