@@ -1,0 +1,4 @@
+pub mod Days
+pub mod Fractions
+pub mod Moments
+pub mod Spelling

@@ -1,0 +1,14 @@
+//! Laws of the calendar. They compute nothing.
+
+ghost use Rattle.std.specs.Prelude.{◌≡◌, ℤ, pos};
+ghost use Rattle.tt_value.specs.Calendar.{CivilDate, IsCivil, IsDay, date_of, day_text};
+
+/// Day 0 is 1970-01-01. Each day is a date of the years 1 to 9999, each such date is a day's, and no two days
+/// have the same date or are written alike.
+pub fn days_are_dates()
+    ensures zero { date_of (pos 0) ≡ record { year = 1970; month = 1; day = 1 } }
+    ensures date { (day : ℤ) → IsDay day → IsCivil (date_of day) }
+    ensures day { (date : CivilDate) → IsCivil date → (day : ℤ) × IsDay day × (date_of day ≡ date) }
+    ensures one { (a b : ℤ) → IsDay a → IsDay b → date_of a ≡ date_of b → a ≡ b }
+    ensures text { (a b : ℤ) → IsDay a → IsDay b → day_text a ≡ day_text b → a ≡ b }
+{}
