@@ -1,0 +1,9 @@
+pub mod Histories
+pub mod Moves
+pub mod Opening
+pub mod Entering
+pub mod Leaving
+pub mod Parting
+pub mod Meeting
+pub mod Closing
+pub mod Keeping
