@@ -1,0 +1,72 @@
+ghost use Rattle.std.specs.Prelude.{◌≡◌, All, IfOk};
+ghost use Rattle.tt_value.specs.RowText.{IsPrintable};
+
+use std::alloc::{AllocError, Global};
+use std::marker::Model;
+use std::sync::Arc;
+use tt_value::{Bag, Row};
+
+/// Why a statement was not carried out. A place is a byte offset from the statement's first token.
+#[derive(Clone, Copy, Debug, PartialEq, Eq)]
+pub enum Refusal {
+    UnknownTable(u32),
+    TableExists(u32),
+    WrongCount(u32),
+}
+
+/// A bag that several owners share. Contracts see its rows.
+#[derive(Debug, Drop)]
+pub struct SharedBag {
+    bag: Arc<Bag>,
+}
+
+/// What a statement answers. The rows of a query come in the order of its answer.
+#[derive(Debug, Drop)]
+pub enum Reply {
+    Ok,
+    Inserted(u64),
+    Rows(SharedBag),
+    Refused(Refusal),
+    Memory,
+}
+
+impl Model for SharedBag {
+    ghost use Rattle.std.specs.Prelude.{List};
+    ghost use Rattle.std.specs.Arc.{arc_value};
+    ghost use Rattle.tt_value.specs.declared.value.Row.{Row};
+    ghost use Rattle.tt_value.specs.RowText.{IsPrintable};
+    ghost use Rattle.std.specs.Prelude.{All};
+
+    ghost Value = { List Row };
+
+    ghost view = { λ s. arc_value s.bag };
+
+    ghost invariant = { λ s. All IsPrintable (arc_value s.bag) };
+}
+
+impl SharedBag {
+    pub fn new(alloc: Global, bag: Bag) -> Result<SharedBag, AllocError>
+        requires { All IsPrintable bag }
+        ensures { IfOk result (λ shared. shared ≡ bag) }
+    {
+        Ok(SharedBag {
+            bag: Arc::new(alloc, bag)?,
+        })
+    }
+
+    /// One more owner of the same bag. No row is copied.
+    pub fn share(&self) -> Result<SharedBag, AllocError>
+        ensures { IfOk result (λ shared. shared ≡ self.now) }
+    {
+        Ok(SharedBag {
+            bag: Arc::try_clone(&self.bag)?,
+        })
+    }
+
+    pub fn bag(&self) -> &Bag
+        ensures value { result.now ≡ self.now }
+        ensures printable { All IsPrintable self.now }
+    {
+        &self.bag
+    }
+}
