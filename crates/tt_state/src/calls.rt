@@ -1,0 +1,143 @@
+ghost use Rattle.std.specs.Prelude.{◌≡◌, true, Some, None, length, All, IfOk, IfErr, IsSome, IsOkAnd};
+ghost use Rattle.tt_value.specs.RowText.{IsPrintable};
+ghost use Rattle.tt_history.specs.Store.{next_statement, open_statement};
+ghost use Rattle.tt_history.specs.SelectRows.{answer_of};
+ghost use Rattle.tt_history.specs.StartEntry.{is_started};
+ghost use Rattle.tt_history.specs.DefineEntry.{is_definition};
+ghost use Rattle.tt_history.specs.StepLaws.{entry_at};
+ghost use Rattle.tt_history.specs.declared.history.Actor.TheVariants as actor;
+ghost use Rattle.tt_history.specs.declared.history.Told.{Told};
+ghost use Rattle.tt_history.specs.declared.history.Told.TheVariants as told;
+ghost use Rattle.tt_history.specs.declared.history.EntryKind.TheVariants as kind;
+ghost use Rattle.tt_history.specs.declared.reply.Reply.TheVariants as reply;
+ghost use Rattle.tt_state.specs.Book.{MadeEntry};
+ghost use Rattle.tt_state.specs.Outcomes.{reply_to_start};
+ghost use Rattle.tt_state.specs.Tickets.{opened_by, IsOpenTicket, IsQueryTicket, IsBuiltFor, GivesTicket};
+
+use crate::catalog::Catalog;
+use crate::ticket::{Built, Started, Ticket};
+use tt_history::{Actor, Entry, EntryKind, Reply, Statement, Syntax, Told};
+
+fn session_entry(moment: u64, session: u32, index: u32, kind: EntryKind) -> Entry
+    ensures { result ≡ record { moment = moment; actor = actor.Session session; index = index; kind = kind } }
+{
+    Entry {
+        moment,
+        actor: Actor::Session(session),
+        index: index as u64,
+        kind,
+    }
+}
+
+/// Makes the Define entry of a session's next statement, which is a definition: it is carried out, or
+/// refused, or finds no memory.
+pub fn define(cat: &mut Catalog, session: u32, index: u32, statement: &Statement) -> Reply
+    requires next { next_statement cat.old.program cat.old.store session index ≡ Some statement.now }
+    requires definition { is_definition statement.now ≡ true }
+    ensures { (told : Told) × MadeEntry cat.old cat.new (entry_at cat.old.store session index (kind.Define told)) (Some result) }
+{
+    let moment = cat.state.moment + 1;
+    let (told, reply) = cat.state.define(&cat.program, session, index, statement);
+    let entry = session_entry(moment, session, index, EntryKind::Define(told));
+    cat.history.push(entry);
+    reply
+}
+
+fn start_statement(cat: &mut Catalog, session: u32, index: u32, statement: &Statement) -> Started
+    requires next { next_statement cat.old.program cat.old.store session index ≡ Some statement.now }
+    requires started { is_started statement.now ≡ true }
+    ensures entry { (told : Told) × MadeEntry cat.old cat.new (entry_at cat.old.store session index (kind.Start told)) (reply_to_start result) }
+    ensures ticket { GivesTicket cat.old cat.new session index statement.now result }
+{
+    let moment = cat.state.moment + 1;
+    let (told, started) = cat.state.start(&cat.program, session, index, statement);
+    let entry = session_entry(moment, session, index, EntryKind::Start(told));
+    cat.history.push(entry);
+    started
+}
+
+/// Makes the Start entry of a session's next statement, which is a query or an INSERT: it begins with a
+/// ticket, or is refused, or finds no memory. The text was parsed before.
+pub fn start(
+    cat: &mut Catalog,
+    session: u32,
+    index: u32,
+    parsed: Result<&Statement, Syntax>,
+) -> Started
+    requires next { IsOkAnd parsed (λ statement. next_statement cat.old.program cat.old.store session index ≡ Some statement.now) }
+    requires started { IsOkAnd parsed (λ statement. is_started statement.now ≡ true) }
+    ensures entry { (told : Told) × MadeEntry cat.old cat.new (entry_at cat.old.store session index (kind.Start told)) (reply_to_start result) }
+    ensures ticket { IfOk parsed.entry (λ statement. GivesTicket cat.old cat.new session index statement.now result) }
+{
+    let Ok(statement) = parsed else {
+        unreachable!()
+    };
+    start_statement(cat, session, index, statement)
+}
+
+/// Makes the End entry of an open query, whose answer is that over what its ticket holds. It takes no
+/// memory.
+pub fn end_read(cat: &mut Catalog, ticket: Ticket)
+    requires { IsQueryTicket cat.old ticket }
+    ensures { MadeEntry cat.old cat.new (entry_at cat.old.store ticket.session ticket.index kind.End) (Some (reply.Rows (answer_of (opened_by ticket)))) }
+{
+    let Ticket {
+        session,
+        index,
+        sources: _sources,
+        target: _target,
+    } = ticket;
+    let moment = cat.state.moment + 1;
+    cat.state.end_statement(&cat.program, session, index);
+    let entry = session_entry(moment, session, index, EntryKind::End);
+    cat.history.push(entry);
+}
+
+/// Makes the Abandon entry of an open statement, which then has no effect. Want of memory is the one
+/// cause by now. It takes no memory.
+pub fn abandon(cat: &mut Catalog, ticket: Ticket, why: Told)
+    requires ticket { IsOpenTicket cat.old ticket }
+    requires why { why ≡ told.Memory }
+    ensures { MadeEntry cat.old cat.new (entry_at cat.old.store ticket.session ticket.index (kind.Abandon told.Memory)) (Some reply.Memory) }
+{
+    let Ticket {
+        session,
+        index,
+        sources: _sources,
+        target: _target,
+    } = ticket;
+    let moment = cat.state.moment + 1;
+    cat.state.end_statement(&cat.program, session, index);
+    let entry = session_entry(moment, session, index, EntryKind::Abandon(why));
+    cat.history.push(entry);
+}
+
+/// Makes the End entry of an open INSERT, whose rows its table has from then on. Want of memory gives the
+/// ticket back, and then the catalog is unchanged.
+pub fn end_change(cat: &mut Catalog, ticket: Ticket, built: Built) -> Result<Reply, Ticket>
+    requires { IsBuiltFor cat.old ticket built }
+    ensures ok { IfOk result (λ answer. MadeEntry cat.old cat.new (entry_at cat.old.store ticket.session ticket.index kind.End) (Some answer)) }
+    ensures counted { IfOk result (λ answer. answer ≡ reply.Inserted built.count) }
+    ensures ticket { IfErr result (λ again. again ≡ ticket) }
+    ensures unchanged { IfErr result (λ _. cat.new ≡ cat.old) }
+{
+    let number = match &ticket.target {
+        Some(seen) => seen.table,
+        None => unreachable!(),
+    };
+    let Built { rows, count } = built;
+    let moment = cat.state.moment + 1;
+    let Ok(()) = cat.state.commit(number, rows) else {
+        return Err(ticket);
+    };
+    let Ticket {
+        session,
+        index,
+        sources: _sources,
+        target: _target,
+    } = ticket;
+    cat.state.end_statement(&cat.program, session, index);
+    let entry = session_entry(moment, session, index, EntryKind::End);
+    cat.history.push(entry);
+    Ok(Reply::Inserted(count))
+}

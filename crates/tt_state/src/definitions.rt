@@ -1,0 +1,105 @@
+ghost use Rattle.std.specs.Prelude.{◌≡◌, ◌+◌, ◌<◌, ◌^◌, length, IfOk, OnOk, OnErr, true, []};
+ghost use Rattle.tt_history.specs.CreateTable.{new_table as table_of, with_table};
+ghost use Rattle.tt_history.specs.DefineEntry.{is_definition};
+ghost use Rattle.tt_state.specs.Outcomes.{CarriesOut};
+ghost use Rattle.tt_history.specs.Store.{with_ended};
+ghost use Rattle.tt_history.specs.declared.plain.Plain.{Plain};
+ghost use Rattle.tt_state.specs.PlainOf.{plain_of};
+ghost use Rattle.tt_state.specs.Ready.{IsReady};
+
+use crate::lookup::{refusal, refusal_number};
+use crate::state::State;
+use std::alloc::{AllocError, Global};
+use tt_history::{Create, PlainTable, Program, Reply, SharedBag, Statement, Told, Version};
+use tt_value::{Bag, Schema, Sequence};
+
+pub fn empty_rows(alloc: Global) -> Result<SharedBag, AllocError>
+    ensures { IfOk result (λ rows. rows ≡ []) }
+{
+    let bag = Bag::from_rows(alloc, Vec::new(alloc))?;
+    SharedBag::new(alloc, bag)
+}
+
+#[tactic(auto, unfolding(tt_history::specs::CreateTable::new_table))]
+fn make_table(
+    alloc: Global,
+    tables: &[PlainTable],
+    moment: u64,
+    create: &Create,
+) -> Result<PlainTable, AllocError>
+    requires { length tables.now + 1 < 2 ^ 32 }
+    ensures { IfOk result (λ table. table ≡ table_of tables.now moment create.now) }
+{
+    let rows = empty_rows(alloc)?;
+    let mut versions = Sequence::new(alloc);
+    versions.push(Version {
+        begun: moment,
+        rows,
+    })?;
+    Ok(PlainTable {
+        number: tables.len() as u32 + 1,
+        name: create.name.clone()?,
+        schema: Schema {
+            columns: create.columns.clone()?,
+        },
+        made: moment,
+        versions,
+    })
+}
+
+impl State {
+    #[tactic(auto, unfolding(tt_history::specs::CreateTable::with_table))]
+    fn add_table(&mut self, create: &Create) -> Result<(), AllocError>
+        requires few { length self.old.tables.items + 1 < 2 ^ 32 }
+        requires moment { self.old.moment + 1 < 2 ^ 64 }
+        ensures ok { OnOk result (plain_of self.new ≡ with_table (plain_of self.old) (self.old.moment + 1) create.now) }
+        ensures err { OnErr result (plain_of self.new ≡ plain_of self.old) }
+    {
+        let alloc = *self.tables.allocator();
+        let table = make_table(alloc, self.tables.as_slice(), self.moment + 1, create)?;
+        self.tables.push(table)?;
+        Ok(())
+    }
+
+    /// Carries a definition out, where it is not refused and memory is found. The moment is still that
+    /// of the last entry.
+    fn carry_out(&mut self, statement: &Statement) -> (Told, Reply)
+        requires definition { is_definition statement.now ≡ true }
+        requires few { length self.old.tables.items + 1 < 2 ^ 32 }
+        requires moment { self.old.moment + 1 < 2 ^ 64 }
+        ensures { CarriesOut (plain_of self.old) statement.now (plain_of self.new) result.0 result.1 }
+    {
+        if let Some(refusal) = refusal(self.tables.as_slice(), statement) {
+            return (
+                Told::Refused(refusal_number(refusal)),
+                Reply::Refused(refusal),
+            );
+        }
+        let Statement::Create(create) = statement else {
+            unreachable!()
+        };
+        match self.add_table(create) {
+            Ok(()) => (Told::Done, Reply::Ok),
+            Err(AllocError) => (Told::Memory, Reply::Memory),
+        }
+    }
+
+    /// Makes the whole of a definition's entry but the entry itself.
+    pub fn define(
+        &mut self,
+        program: &Program,
+        session: u32,
+        index: u32,
+        statement: &Statement,
+    ) -> (Told, Reply)
+        requires definition { is_definition statement.now ≡ true }
+        requires few { length self.old.tables.items + 1 < 2 ^ 32 }
+        requires ready { IsReady program.now (plain_of self.old) session index }
+        ensures { (defined : Plain) × CarriesOut (plain_of self.old) statement.now defined result.0 result.1
+            × (plain_of self.new ≡ with_ended program.now defined (self.old.moment + 1) session index) }
+    {
+        let outcome = self.carry_out(statement);
+        self.end_statement(program, session, index);
+        outcome
+    }
+}

@@ -1,0 +1,182 @@
+ghost use Rattle.std.specs.Prelude.{◌≡◌, ◌<◌, ◌+◌, ◌^◌, length, map, true, None, IfOk};
+ghost use Rattle.std.specs.Option.{option_map};
+ghost use Rattle.tt_history.specs.Refusals.{refusal_of};
+ghost use Rattle.tt_history.specs.StartEntry.{is_started};
+ghost use Rattle.tt_history.specs.Store.{current_rows as rows_of};
+ghost use Rattle.tt_state.specs.Outcomes.{Starts};
+ghost use Rattle.tt_state.specs.PlainOf.{plain_of};
+ghost use Rattle.tt_state.specs.Ready.{IsReady};
+ghost use Rattle.tt_state.specs.Tickets.{SeesTables, opened_with, seen_rows, read_table as read_of, written_table as written_of};
+
+use crate::definitions::empty_rows;
+use crate::lookup::{live_table, refusal, refusal_number};
+use crate::state::State;
+use crate::ticket::{Seen, Started, Ticket};
+use std::alloc::{AllocError, Global};
+use tt_history::{PlainOpen, PlainTable, Program, SharedBag, Statement, Told};
+use tt_value::Sequence;
+
+/// The rows of a table's last version. No row is copied.
+pub fn current_rows(alloc: Global, table: &PlainTable) -> Result<SharedBag, AllocError>
+    ensures { IfOk result (λ rows. rows ≡ rows_of table.now) }
+{
+    match table.versions.items().last() {
+        Some(version) => version.rows.share(),
+        None => empty_rows(alloc),
+    }
+}
+
+fn read_table(alloc: Global, table: &PlainTable) -> Result<Seen, AllocError>
+    ensures { IfOk result (λ seen. seen ≡ read_of table.now) }
+{
+    Ok(Seen {
+        table: table.number,
+        schema: table.schema.clone()?,
+        rows: current_rows(alloc, table)?,
+    })
+}
+
+fn written_table(alloc: Global, table: &PlainTable) -> Result<Seen, AllocError>
+    ensures { IfOk result (λ seen. seen ≡ written_of table.now) }
+{
+    Ok(Seen {
+        table: table.number,
+        schema: table.schema.clone()?,
+        rows: empty_rows(alloc)?,
+    })
+}
+
+// The tables that a statement reads, and the one that it changes.
+fn seen_tables(
+    alloc: Global,
+    tables: &[PlainTable],
+    statement: &Statement,
+) -> Result<(Vec<Seen>, Option<Seen>), AllocError>
+    requires started { is_started statement.now ≡ true }
+    requires free { refusal_of tables.now statement.now ≡ None }
+    ensures { IfOk result (λ seen. SeesTables tables.now statement.now seen.0.items seen.1) }
+{
+    let mut sources = Vec::new(alloc);
+    match statement {
+        Statement::Create(_) => unreachable!(),
+        Statement::Insert(insert) => {
+            let Some(table) = live_table(tables, &insert.name) else {
+                unreachable!()
+            };
+            Ok((sources, Some(written_table(alloc, table)?)))
+        }
+        Statement::Query(query) => {
+            let Some(table) = live_table(tables, &query.name) else {
+                unreachable!()
+            };
+            sources.push(read_table(alloc, table)?)?;
+            Ok((sources, None))
+        }
+    }
+}
+
+fn share_seen(seen: &Seen) -> Result<(u32, SharedBag), AllocError>
+    ensures { IfOk result (λ pair. pair ≡ seen_rows seen.now) }
+{
+    Ok((seen.table, seen.rows.share()?))
+}
+
+fn share_sources(alloc: Global, sources: &[Seen]) -> Result<Vec<(u32, SharedBag)>, AllocError>
+    ensures { IfOk result (λ pairs. pairs.items ≡ map seen_rows sources.now) }
+{
+    let mut pairs = Vec::new(alloc);
+    for seen in sources {
+        pairs.push(share_seen(seen)?)?;
+    }
+    Ok(pairs)
+}
+
+fn share_target(target: &Option<Seen>) -> Result<Option<(u32, SharedBag)>, AllocError>
+    ensures { IfOk result (λ pair. pair ≡ option_map seen_rows target.now) }
+{
+    match target {
+        Some(seen) => Ok(Some(share_seen(seen)?)),
+        None => Ok(None),
+    }
+}
+
+fn opened(
+    alloc: Global,
+    index: u32,
+    sources: &[Seen],
+    target: &Option<Seen>,
+) -> Result<PlainOpen, AllocError>
+    ensures { IfOk result (λ begun. begun ≡ opened_with index sources.now target.now) }
+{
+    Ok(PlainOpen {
+        index,
+        sources: Sequence::from_vec(share_sources(alloc, sources)?),
+        target: share_target(target)?,
+    })
+}
+
+// A ticket with what the store keeps of it.
+struct Opening {
+    sources: Vec<Seen>,
+    target: Option<Seen>,
+    seen: PlainOpen,
+}
+
+fn make_opening(
+    alloc: Global,
+    tables: &[PlainTable],
+    index: u32,
+    statement: &Statement,
+) -> Result<Opening, AllocError>
+    requires started { is_started statement.now ≡ true }
+    requires free { refusal_of tables.now statement.now ≡ None }
+    ensures sees { IfOk result (λ o. SeesTables tables.now statement.now o.sources.items o.target) }
+    ensures seen { IfOk result (λ o. o.seen ≡ opened_with index o.sources.items o.target) }
+{
+    let (sources, target) = seen_tables(alloc, tables, statement)?;
+    let seen = opened(alloc, index, sources.as_slice(), &target)?;
+    Ok(Opening {
+        sources,
+        target,
+        seen,
+    })
+}
+
+impl State {
+    /// Makes the whole of a start's entry but the entry itself.
+    pub fn start(
+        &mut self,
+        program: &Program,
+        session: u32,
+        index: u32,
+        statement: &Statement,
+    ) -> (Told, Started)
+        requires started { is_started statement.now ≡ true }
+        requires ready { IsReady program.now (plain_of self.old) session index }
+        ensures { Starts program.now (plain_of self.old) session index statement.now (plain_of self.new) result.0 result.1 }
+    {
+        if let Some(refusal) = refusal(self.tables.as_slice(), statement) {
+            self.end_statement(program, session, index);
+            let told = Told::Refused(refusal_number(refusal));
+            return (told, Started::Refused(refusal));
+        }
+        let alloc = *self.tables.allocator();
+        let Ok(opening) = make_opening(alloc, self.tables.as_slice(), index, statement) else {
+            self.end_statement(program, session, index);
+            return (Told::Memory, Started::Memory);
+        };
+        let Opening {
+            sources,
+            target,
+            seen,
+        } = opening;
+        self.begin_statement(program, session, index, seen);
+        let ticket = Ticket {
+            session,
+            index,
+            sources,
+            target,
+        };
+        (Told::Done, Started::Ticket(ticket))
+    }
+}
