@@ -1,0 +1,7 @@
+pub mod AnsweredLines
+pub mod Turns
+pub mod TurnsLaws
+pub mod RunLaws
+pub mod Outcomes
+pub mod Top
+pub mod Words

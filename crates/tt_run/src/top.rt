@@ -1,0 +1,183 @@
+//! The top call: from the words and the bytes that come in to the bytes that go out.
+
+ghost use Rattle.std.specs.Prelude.{◌≡◌, ◌≢◌, ◌<◌, ◌≤◌, ◌-◌, ◌↔◌, ℕ, None, map, string_bytes, take, true, false, IfOk, IfErr, OnOk, IfSome, OnSome, IfNone, IsSome, IsErrOf};
+ghost use Rattle.std.specs.Io.KnownBytes.{Appends, IsAtEnd};
+ghost use Rattle.tt_edge.specs.Outside.{Rose};
+ghost use Rattle.tt_history.specs.Script.{program_of};
+ghost use Rattle.tt_history.specs.Replay.{IsLegal, IsComplete};
+ghost use Rattle.tt_history.specs.Transcript.{transcript_of};
+ghost use Rattle.tt_history.specs.ProgramLaws.{WasRead};
+ghost use Rattle.tt_run.specs.Outcomes.{IsFinished, IsTranscript, Stands};
+ghost use Rattle.tt_run.specs.Words.{are_replay_words};
+ghost use Rattle.tt_run.specs.Top.{longest_input, IsEarly, IsLate};
+
+use crate::run::{Finished, run_program};
+use crate::words::is_replay;
+use std::alloc::Global;
+use std::fmt;
+use tt_edge::{Sink, Source, Unread, Unwritten, read_all, write_all};
+use tt_history::{Program, ReadError, read};
+use tt_state::Catalog;
+
+/// The most bytes of an input.
+const LONGEST_INPUT: u32 = 67_108_864;
+
+/// How the call went. A place is a byte offset in the input.
+#[derive(Clone, Copy, Debug, PartialEq, Eq)]
+pub enum Status {
+    Ok,
+    BadWords,
+    BadInput(u64),
+    ReadFault,
+    WriteFault,
+    OutOfMemory,
+    TooLong,
+}
+
+impl Status {
+    /// The number with which the program ends.
+    pub fn number(self) -> u8 {
+        match self {
+            Status::Ok => 0,
+            Status::BadWords => 2,
+            Status::BadInput(_) => 3,
+            Status::ReadFault => 4,
+            Status::WriteFault => 5,
+            Status::OutOfMemory => 6,
+            Status::TooLong => 7,
+        }
+    }
+}
+
+impl fmt::Display for Status {
+    fn fmt<W: fmt::Write>(&self, f: &mut fmt::Formatter<W>) -> fmt::Result {
+        match self {
+            Status::Ok => write!(f, "ok"),
+            Status::BadWords => write!(f, "bad words"),
+            Status::BadInput(place) => write!(f, "bad input at {place}"),
+            Status::ReadFault => write!(f, "read fault"),
+            Status::WriteFault => write!(f, "write fault"),
+            Status::OutOfMemory => write!(f, "out of memory"),
+            Status::TooLong => write!(f, "input too long"),
+        }
+    }
+}
+
+/// The status, and the store where the run was done and something of it may have been written.
+#[derive(Drop)]
+pub struct Outcome {
+    pub status: Status,
+    pub store: Option<Catalog>,
+}
+
+// Reads the input to its end and the script from it.
+fn read_program<S: Source>(alloc: Global, source: &mut S) -> Result<Program, Status>
+    ensures read { IfOk result (λ program. IfSome (S.left source.old) (λ left. program_of left ≡ Some program)) }
+    ensures was_read { IfOk result WasRead }
+    ensures end { OnOk result (IsAtEnd (S.left source.new)) }
+    ensures early { IfErr result IsEarly }
+    ensures bad_end { IfErr result (λ status. status ≡ Status.BadInput 0 → IsAtEnd (S.left source.new)) }
+    ensures bad_input { IfErr result (λ status. status ≡ Status.BadInput 0 → IfSome (S.left source.old) (λ left. program_of left ≡ None)) }
+    ensures too_long { IsErrOf result Status.TooLong ↔ (longest_input < S.given source.new - S.given source.old) }
+    ensures failed { IsErrOf result Status.ReadFault → Rose (S.faults source.old) (S.faults source.new) }
+{
+    let bytes = match read_all(alloc, source, LONGEST_INPUT) {
+        Ok(bytes) => bytes,
+        Err(Unread::Failed) => return Err(Status::ReadFault),
+        Err(Unread::TooLong) => return Err(Status::TooLong),
+        Err(Unread::Memory) => return Err(Status::OutOfMemory),
+    };
+    match read(alloc, bytes) {
+        Ok(program) => Ok(program),
+        Err(ReadError::Bad) => Err(Status::BadInput(0)),
+        Err(ReadError::Memory) => Err(Status::OutOfMemory),
+    }
+}
+
+// Writes the transcript, and says how far it came.
+fn finish<K: Sink>(sink: &mut K, finished: Finished) -> Outcome
+    ensures kept { IfSome result.store (λ store. store ≡ finished.store) }
+    ensures whole { result.status ≡ Status.Ok → Appends (K.holds sink.old) (K.holds sink.new) finished.text.items }
+    ensures prefix { OnSome result.store ((written : ℕ) × Appends (K.holds sink.old) (K.holds sink.new) (take written finished.text.items)) }
+    ensures nothing { IfNone result.store (K.received sink.new ≡ K.received sink.old) }
+    ensures ok { result.status ≡ Status.Ok → IsSome result.store }
+    ensures fault { result.status ≡ Status.WriteFault → IsSome result.store }
+    ensures failed { result.status ≡ Status.WriteFault → Rose (K.faults sink.old) (K.faults sink.new) }
+    ensures late { IsLate result.status }
+{
+    let Finished { store, text } = finished;
+    let Err(unfinished) = write_all(sink, text.as_slice()) else {
+        return Outcome {
+            status: Status::Ok,
+            store: Some(store),
+        };
+    };
+    match unfinished.why {
+        Unwritten::Failed => Outcome {
+            status: Status::WriteFault,
+            store: Some(store),
+        },
+        Unwritten::Memory => Outcome {
+            status: Status::OutOfMemory,
+            store: (unfinished.written > 0).then_some(store),
+        },
+    }
+}
+
+/// Serves `replay`: reads a script of one session, runs its statements and writes the transcript.
+/// Nothing is written before the run is done.
+pub fn top_alone<S: Source, K: Sink>(
+    alloc: Global,
+    words: &[String],
+    source: &mut S,
+    sink: &mut K,
+) -> Outcome
+    // The returned store's history is legal and complete for the program that it keeps, and it stands for it.
+    ensures legal { IfSome result.store (λ store. IsLegal store.program store.history) }
+    ensures complete { IfSome result.store (λ store. IsComplete store.program store.history) }
+    ensures stands { IfSome result.store Stands }
+
+    // The bytes written are the transcript, or a prefix of it where writing failed.
+    ensures transcript { result.status ≡ Status.Ok → IfSome result.store (λ store.
+        Appends (K.holds sink.old) (K.holds sink.new) (transcript_of store.program store.history)) }
+    ensures prefix { IfSome result.store (λ store. (written : ℕ) ×
+        Appends (K.holds sink.old) (K.holds sink.new) (take written (transcript_of store.program store.history))) }
+    ensures nothing { IfNone result.store (K.received sink.new ≡ K.received sink.old) }
+
+    // The program is what the grammar reads from all that the source gave, to its end.
+    ensures read { IfSome result.store (λ store. IfSome (S.left source.old) (λ left. program_of left ≡ Some store.program)) }
+    ensures end { OnSome result.store (IsAtEnd (S.left source.new)) }
+
+    // Each status by its cause.
+    ensures words { (result.status ≡ Status.BadWords) ↔ (are_replay_words (map string_bytes words.now) ≡ false) }
+    ensures ok { result.status ≡ Status.Ok → IsSome result.store }
+    ensures fault { result.status ≡ Status.WriteFault → IsSome result.store }
+    ensures write_fault { result.status ≡ Status.WriteFault → Rose (K.faults sink.old) (K.faults sink.new) }
+    ensures read_fault { result.status ≡ Status.ReadFault → Rose (S.faults source.old) (S.faults source.new) }
+    ensures too_long { result.status ≡ Status.TooLong → longest_input < S.given source.new - S.given source.old }
+    ensures bad_input { result.status ≡ Status.BadInput 0 → IfSome (S.left source.old) (λ left. program_of left ≡ None) }
+    ensures bad_end { result.status ≡ Status.BadInput 0 → IsAtEnd (S.left source.new) }
+{
+    if !is_replay(words) {
+        return Outcome {
+            status: Status::BadWords,
+            store: None,
+        };
+    }
+    let program = match read_program(alloc, source) {
+        Ok(program) => program,
+        Err(status) => {
+            return Outcome {
+                status,
+                store: None,
+            };
+        }
+    };
+    let Ok(finished) = run_program(alloc, &program) else {
+        return Outcome {
+            status: Status::OutOfMemory,
+            store: None,
+        };
+    };
+    finish(sink, finished)
+}

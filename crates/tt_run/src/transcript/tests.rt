@@ -1,0 +1,192 @@
+ghost use Rattle.std.specs.Prelude.{All, IfOk};
+ghost use Rattle.tt_value.specs.RowText.{IsPrintable};
+
+use super::{transcript, write_end, write_entries, write_journal_line, write_reply};
+use std::alloc::Global;
+use std::test::Fail;
+use tt_history::{
+    Actor, Entry, EntryKind, Program, Refusal, Reply, ScriptText, SessionText, SharedBag, Told,
+};
+use tt_value::{Bag, Row, Sequence, Text, Value};
+
+/// A program with one session, `a`.
+fn program(alloc: Global) -> Result<Program, Fail> {
+    let mut sessions = Sequence::new(alloc);
+    sessions.push(SessionText {
+        name: Text::from_str(alloc, "a")?,
+        statements: Sequence::new(alloc),
+    })?;
+    Ok(Program {
+        start: 0,
+        text: ScriptText::new(alloc, String::new(alloc))?,
+        sessions,
+    })
+}
+
+fn entry(moment: u64, index: u64, kind: EntryKind) -> Entry {
+    Entry {
+        moment,
+        actor: Actor::Session(0),
+        index,
+        kind,
+    }
+}
+
+fn number_row(alloc: Global, number: i64) -> Result<Row, Fail>
+    ensures { IfOk result IsPrintable }
+{
+    let mut values = Sequence::new(alloc);
+    values.push(Value::Int(number))?;
+    Ok(Row { values })
+}
+
+/// A bag of rows of one number each.
+fn number_bag(alloc: Global, numbers: &[i64]) -> Result<Bag, Fail>
+    ensures { IfOk result (λ bag. All IsPrintable bag) }
+{
+    let mut rows = Vec::new(alloc);
+    for number in numbers {
+        rows.push(number_row(alloc, *number)?)?;
+    }
+    Ok(Bag::from_rows(alloc, rows)?)
+}
+
+#[test]
+fn a_reply_stands_behind_the_entry_that_ends_its_statement(rt: HostRuntime) -> Result<(), Fail> {
+    let alloc = rt.alloc();
+    let entries = [
+        entry(1, 1, EntryKind::Define(Told::Done)),
+        entry(2, 2, EntryKind::Start(Told::Done)),
+        entry(3, 2, EntryKind::End),
+        entry(4, 3, EntryKind::Start(Told::Done)),
+        entry(5, 3, EntryKind::End),
+    ];
+    let mut replies = Vec::new(alloc);
+    replies.push(Reply::Ok)?;
+    replies.push(Reply::Inserted(3))?;
+    let rows = SharedBag::new(alloc, number_bag(alloc, &[2, 1, 2])?)?;
+    replies.push(Reply::Rows(rows))?;
+    let mut out = Vec::new(alloc);
+    write_entries(&program(alloc)?, &entries, replies.as_slice(), &mut out)?;
+    write_end(entries.len(), &mut out)?;
+    let wanted = "@1 a 1 define\n= ok\n@2 a 2 start\n@3 a 2 end\n= 3 inserted\n\
+                  @4 a 3 start\n@5 a 3 end\n: 1\n: 2\n: 2\n= 3 rows\n%end 5\n";
+    assert_eq!(rt; out.as_slice(), wanted.as_bytes());
+    Ok(())
+}
+
+#[test]
+fn an_entry_is_told_by_its_moment_actor_index_and_kind(rt: HostRuntime) -> Result<(), Fail> {
+    let alloc = rt.alloc();
+    let program = program(alloc)?;
+    for (moment, actor, index, kind, wanted) in [
+        (
+            1,
+            Actor::Session(0),
+            1,
+            EntryKind::Start(Told::Done),
+            "@1 a 1 start\n",
+        ),
+        (
+            20,
+            Actor::Session(0),
+            12,
+            EntryKind::Start(Told::Refused(2)),
+            "@20 a 12 start refused 2\n",
+        ),
+        (
+            3,
+            Actor::Session(0),
+            4,
+            EntryKind::Start(Told::Memory),
+            "@3 a 4 start memory\n",
+        ),
+        (9, Actor::Session(0), 7, EntryKind::End, "@9 a 7 end\n"),
+        (
+            9,
+            Actor::Session(0),
+            7,
+            EntryKind::Abandon(Told::Memory),
+            "@9 a 7 abandon memory\n",
+        ),
+        (
+            0,
+            Actor::Session(0),
+            1,
+            EntryKind::Define(Told::Refused(5)),
+            "@0 a 1 define refused 5\n",
+        ),
+        (
+            0,
+            Actor::Session(0),
+            1,
+            EntryKind::Define(Told::Memory),
+            "@0 a 1 define memory\n",
+        ),
+        (
+            253_402_300_799_999,
+            Actor::Purge,
+            2,
+            EntryKind::End,
+            "@253402300799999 @purge 2 end\n",
+        ),
+        (
+            5,
+            Actor::Recluster,
+            3,
+            EntryKind::End,
+            "@5 @recluster 3 end\n",
+        ),
+    ] {
+        let entry = Entry {
+            moment,
+            actor,
+            index,
+            kind,
+        };
+        let mut out = Vec::new(alloc);
+        write_journal_line(&program, &entry, &mut out)?;
+        assert_eq!(rt; out.as_slice(), wanted.as_bytes());
+    }
+    Ok(())
+}
+
+#[test]
+fn each_reply_has_its_lines(rt: HostRuntime) -> Result<(), Fail> {
+    let alloc = rt.alloc();
+    let no_rows = SharedBag::new(alloc, number_bag(alloc, &[])?)?;
+    let rows = SharedBag::new(alloc, number_bag(alloc, &[7, -1])?)?;
+    for (reply, wanted) in [
+        (Reply::Ok, "= ok\n"),
+        (Reply::Inserted(0), "= 0 inserted\n"),
+        (Reply::Rows(no_rows), "= 0 rows\n"),
+        (Reply::Rows(rows), ": -1\n: 7\n= 2 rows\n"),
+        (
+            Reply::Refused(Refusal::UnknownTable(0)),
+            "! 2 UnknownTable 0\n",
+        ),
+        (
+            Reply::Refused(Refusal::TableExists(13)),
+            "! 3 TableExists 13\n",
+        ),
+        (
+            Reply::Refused(Refusal::WrongCount(21)),
+            "! 5 WrongCount 21\n",
+        ),
+        (Reply::Memory, "! memory\n"),
+    ] {
+        let mut out = Vec::new(alloc);
+        write_reply(&reply, &mut out)?;
+        assert_eq!(rt; out.as_slice(), wanted.as_bytes());
+    }
+    Ok(())
+}
+
+#[test]
+fn an_empty_history_has_its_last_line(rt: HostRuntime) -> Result<(), Fail> {
+    let alloc = rt.alloc();
+    let program = program(alloc)?;
+    let text = transcript(alloc, &program, &[], &[])?;
+    assert_eq!(rt; text.as_slice(), b"%end 0\n".as_slice());
+    Ok(())
+}
