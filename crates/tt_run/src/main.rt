@@ -3,6 +3,8 @@
 
 mod run;
 mod session;
+#[cfg(test)]
+mod tests;
 mod top;
 mod transcript;
 mod words;
