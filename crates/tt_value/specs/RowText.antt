@@ -5,12 +5,13 @@ use Rattle.std.specs.Fmt.{signed_decimal}
 use Rattle.tt_value.specs.declared.value.Value.{Value}
 use Rattle.tt_value.specs.declared.value.Value.TheVariants.{Null, Int, Date, Text}
 use Rattle.tt_value.specs.declared.value.Row.{Row}
+use Rattle.tt_value.specs.Calendar.{IsDay, day_text}
 
--- values that can be written: no dates yet
+-- values that can be written: a date is a day of the years 1 to 9999
 abbrev pub IsPrintableValue : Value → Type 0
 IsPrintableValue Null = ⊤
 IsPrintableValue (Int n) = ⊤
-IsPrintableValue (Date day) = ⊥
+IsPrintableValue (Date day) = IsDay day
 IsPrintableValue (Text bytes) = ⊤
 
 abbrev pub IsPrintable : Row → Type 0
@@ -20,11 +21,11 @@ IsPrintable row = All IsPrintableValue row.values
 abbrev pub quotes_doubled : List ℕ → List ℕ
 quotes_doubled bytes = flat_map (λ byte. if byte == 39 then 39 ∷ 39 ∷ [] else byte ∷ []) bytes
 
--- a number in decimal, a text in quotes; a date has no text yet
+-- a number in decimal, a date as `YYYY-MM-DD`, a text in quotes
 abbrev pub value_text : Value → List ℕ
 value_text Null = codes "NULL"
 value_text (Int n) = signed_decimal n
-value_text (Date day) = []
+value_text (Date day) = day_text day
 value_text (Text bytes) = 39 ∷ quotes_doubled bytes ++ 39 ∷ []
 
 -- the values' texts with a comma, which is byte 44, between any two

@@ -2,12 +2,13 @@ ghost use Rattle.std.specs.Prelude.{◌≡◌, ◌++◌, ◌∷◌, [], OnOk, On
 ghost use Rattle.std.specs.Fmt.{signed_decimal};
 ghost use Rattle.tt_value.specs.RowText.{IsPrintable, IsPrintableValue, Extends, row_text, value_text, quotes_doubled};
 
+use crate::date::write_date;
 use crate::value::{Row, Value};
 use itoa::Buffer;
 use std::alloc::AllocError;
 
-/// Appends the row's values with a comma between any two: a number in decimal, a text in single quotes
-/// with each quote doubled, and `NULL`. Rows with a date cannot be written yet.
+/// Appends the row's values with a comma between any two: a number in decimal, a date as `YYYY-MM-DD`, a
+/// text in single quotes with each quote doubled, and `NULL`. A date must be a day of the years 1 to 9999.
 /// Where memory runs out, part of the text may stand behind what was there.
 pub fn write_row(row: &Row, out: &mut Vec<u8>) -> Result<(), AllocError>
     requires { IsPrintable row.now }
@@ -36,7 +37,10 @@ fn write_value(value: &Value, out: &mut Vec<u8>) -> Result<(), AllocError>
             Ok(())
         }
         Value::Int(number) => write_number(*number, out),
-        Value::Date(_) => unreachable!(),
+        Value::Date(day) => {
+            write_date(*day, out)?;
+            Ok(())
+        }
         Value::Text(text) => write_quoted(text.as_str().as_bytes(), out),
     }
 }

@@ -169,6 +169,17 @@ fn values_are_written(rt: HostRuntime) -> Result<(), Fail> {
         let out = line_of_one(alloc, Value::Int(number))?;
         assert_eq!(rt; out.as_slice(), wanted.as_bytes());
     }
+    for (day, wanted) in [
+        (-719_162, "0001-01-01"),
+        (-1, "1969-12-31"),
+        (0, "1970-01-01"),
+        (11_016, "2000-02-29"),
+        (2_932_896, "9999-12-31"),
+    ] {
+        assert!(rt; -719_162 <= day && day <= 2_932_896);
+        let out = line_of_one(alloc, Value::Date(day))?;
+        assert_eq!(rt; out.as_slice(), wanted.as_bytes());
+    }
     for (content, wanted) in [
         ("", "''"),
         ("a,b", "'a,b'"),
@@ -187,10 +198,15 @@ fn commas_stand_between_values(rt: HostRuntime) -> Result<(), Fail> {
     let alloc = rt.alloc();
     let mut values = Vec::new(alloc);
     values.push(Value::Int(-3))?;
+    values.push(Value::Date(-719_162))?;
     values.push(Value::Text(Text::from_str(alloc, "it's")?))?;
+    values.push(Value::Date(2_932_896))?;
     values.push(Value::Null)?;
     let out = line(alloc, values)?;
-    assert_eq!(rt; out.as_slice(), b"-3,'it''s',NULL".as_slice());
+    assert_eq!(rt;
+        out.as_slice(),
+        b"-3,0001-01-01,'it''s',9999-12-31,NULL".as_slice()
+    );
     Ok(())
 }
 
