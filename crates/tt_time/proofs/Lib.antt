@@ -1,4 +1,5 @@
 pub mod Days
 pub mod Fractions
+pub mod Functions
 pub mod Moments
 pub mod Spelling

@@ -1,17 +1,29 @@
 //! Dates.
 
 ghost use Rattle.std.specs.Prelude.{◌≡◌, ◌≢◌, ℕ, ◌+◌, ◌≤◌, List, ◌++◌, ℤ, IfSome, IfNone, IfOk, OnOk, OnErr, Ok};
-ghost use Rattle.tt_value.specs.Calendar.{IsDay, date_of, date_text, day_text};
+ghost use Rattle.tt_value.specs.Calendar.{IsDay, date_of, day_text};
+ghost use Rattle.std.specs.Result.{result_ok};
+ghost use Rattle.tt_value.specs.CalendarReading.{day_of};
 
 use crate::BadDate;
 use crate::digits::{after, four_digits, two_digits};
 use jiff::civil::Date;
-use jiff_core::civil;
 use std::alloc::AllocError;
 
 /// The day number of a date `YYYY-MM-DD`, 0 being 1970-01-01. Any other text is refused, and so is a day that
 /// the years 1 to 9999 do not have.
+#[tactic(auto, using(crate::proofs::Functions::day_value))]
 pub fn read_date(text: &str) -> Result<i32, BadDate>
+    ensures found { IfOk result (λ day. IsDay day × (text.now ≡ day_text day)) }
+    ensures only { (day : ℤ) → IsDay day → text.now ≡ day_text day → result ≡ Ok day }
+    // So it is what the function on texts gives.
+    ensures value { result_ok result ≡ day_of text.now }
+{
+    whole_date(text)
+}
+
+/// A date that is all of the text.
+fn whole_date(text: &str) -> Result<i32, BadDate>
     ensures found { IfOk result (λ day. IsDay day × (text.now ≡ day_text day)) }
     ensures only { (day : ℤ) → IsDay day → text.now ≡ day_text day → result ≡ Ok day }
 {
@@ -31,8 +43,7 @@ pub fn write_date(day: i32, out: &mut Vec<u8>) -> Result<(), AllocError>
     ensures ok { OnOk result (out.new.items ≡ out.old.items ++ day_text day) }
     ensures err { OnErr result (out.new.items ≡ out.old.items) }
 {
-    let (year, month, day) = date_parts(day);
-    out.extend_from_slice(&date_bytes(year, month, day))
+    tt_value::write_date(day, out)
 }
 
 /// A date at the front of a text, and what stands behind it.
@@ -64,41 +75,4 @@ fn day_number(year: u16, month: u8, day: u8) -> Option<i32>
         Ok(date) => Some(date.to_plain().to_unix_epoch_day()),
         Err(_) => None,
     }
-}
-
-/// The year, the month and the day of a day number.
-fn date_parts(day: i32) -> (u16, u8, u8)
-    requires { IsDay day }
-    ensures value { date_of day ≡ record { year = result.0; month = result.1; day = result.2 } }
-    ensures year { result.0 ≤ 9999 }
-    ensures month { result.1 ≤ 12 }
-    ensures day { result.2 ≤ 31 }
-{
-    match civil::Date::from_unix_epoch_day(i64::from(day)) {
-        Ok(date) => (date.year as u16, date.month, date.day),
-        Err(_) => unreachable!(),
-    }
-}
-
-/// The bytes `YYYY-MM-DD`.
-fn date_bytes(year: u16, month: u8, day: u8) -> [u8; 10]
-    requires year_in { year ≤ 9999 }
-    requires month_in { month ≤ 99 }
-    requires day_in { day ≤ 99 }
-    ensures { result ≡ date_text (record { year = year; month = month; day = day }) }
-{
-    let high = (year / 100) as u8;
-    let low = (year % 100) as u8;
-    [
-        b'0' + high / 10,
-        b'0' + high % 10,
-        b'0' + low / 10,
-        b'0' + low % 10,
-        b'-',
-        b'0' + month / 10,
-        b'0' + month % 10,
-        b'-',
-        b'0' + day / 10,
-        b'0' + day % 10,
-    ]
 }

@@ -3,6 +3,8 @@
 ghost use Rattle.std.specs.Prelude.{◌≡◌, ◌≢◌, ℕ, ◌+◌, ◌*◌, ◌<◌, ◌≤◌, List, ◌++◌, IfSome, IfNone, IfOk, Ok};
 ghost use Rattle.tt_value.specs.Calendar.{Timestamp, IsTimestamp, timestamp_text, moment_of, Clock, IsClock, clock_text, seconds_of};
 ghost use Rattle.tt_time.specs.Tails.{first_digit_at, second_digit_at, third_digit_at, zone_at, tail_at};
+ghost use Rattle.std.specs.Result.{result_ok};
+ghost use Rattle.tt_value.specs.CalendarReading.{timestamp_of};
 
 use crate::BadTimestamp;
 use crate::dates::date_at;
@@ -16,7 +18,18 @@ const LAST_SECOND: u8 = 59;
 
 /// The milliseconds from the beginning of 1970-01-01 to a timestamp: a date, a space or `T`, `HH:MM:SS`,
 /// optionally `.` and 1 to 3 digits, and optionally `Z`. Any other text is refused.
+#[tactic(auto, using(crate::proofs::Functions::moment_value))]
 pub fn read_timestamp(text: &str) -> Result<i64, BadTimestamp>
+    ensures found { IfOk result (λ moment. (t : Timestamp) × IsTimestamp t × (text.now ≡ timestamp_text t) × (moment ≡ moment_of t)) }
+    ensures only { (t : Timestamp) → IsTimestamp t → text.now ≡ timestamp_text t → result ≡ Ok (moment_of t) }
+    // So it is what the function on texts gives.
+    ensures value { result_ok result ≡ timestamp_of text.now }
+{
+    whole_timestamp(text)
+}
+
+/// A timestamp that is all of the text.
+fn whole_timestamp(text: &str) -> Result<i64, BadTimestamp>
     ensures found { IfOk result (λ moment. (t : Timestamp) × IsTimestamp t × (text.now ≡ timestamp_text t) × (moment ≡ moment_of t)) }
     ensures only { (t : Timestamp) → IsTimestamp t → text.now ≡ timestamp_text t → result ≡ Ok (moment_of t) }
 {

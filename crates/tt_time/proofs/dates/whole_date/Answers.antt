@@ -2,7 +2,7 @@ use Rattle.std.proofs.Common.{ℤ, [], Ok, sym, ap, ◌∙◌, arith, FitsSigned
 use Rattle.std.proofs.lemmas.Int.{to_z-of_z}
 use Rattle.jiff_core.proofs.SignedLemmas.{signed_arith}
 use Rattle.tt_time.proofs.Spelling.{day_one}
-use Rattle.tt_time.proofs.dates.read_date.Goals as goal
+use Rattle.tt_time.proofs.dates.whole_date.Goals as goal
 
 pub returns-then-is_empty-clause-only : goal.returns-then-is_empty-clause-only
 returns-then-is_empty-clause-only c = λ day within e.

@@ -1,7 +1,7 @@
 use Rattle.std.proofs.Common.{ℤ, Ok, sym, ap, subst, ◌∙◌, FitsSigned, w64}
 use Rattle.std.proofs.lemmas.Int.{to_z-of_z}
 use Rattle.tt_time.proofs.Moments.{one_moment, moment_fits}
-use Rattle.tt_time.proofs.timestamps.read_timestamp.Goals as goal
+use Rattle.tt_time.proofs.timestamps.whole_timestamp.Goals as goal
 
 pub returns-in-Some-clause-only : goal.returns-in-Some-clause-only
 returns-in-Some-clause-only c = λ t is e.
