@@ -1,4 +1,3 @@
 pub mod Characters
-pub mod Fronts
+pub mod Function
 pub mod OneWay
-pub mod Reading

@@ -4,6 +4,7 @@ ghost use Rattle.std.specs.Prelude.{◌≡◌, ℕ, ◌^◌, ◌<◌, List, leng
 ghost use Rattle.tt_lex.specs.declared.Token.{Token};
 ghost use Rattle.tt_lex.specs.declared.LexFault.{LexFault};
 ghost use Rattle.tt_lex.specs.Lexis.{HasTokens, HasFault, IfFault, GivesTokens, GivesFault, AreInOrder, IsBetweenCharacters};
+ghost use Rattle.tt_lex.specs.TokensOf.{tokens_of, Gives};
 
 use crate::scan::front_of;
 use crate::{Token, TokensError};
@@ -20,6 +21,9 @@ pub fn tokens(alloc: Global, text: &str) -> Result<Vec<Token>, TokensError>
     // The fault that is given is the text's first one, and the text's first one is given.
     ensures fault { IfFault result (HasFault text.now) }
     ensures only_fault { (fault : LexFault) → HasFault text.now fault → GivesFault fault result }
+
+    // So it is what the function on texts gives, unless memory runs out.
+    ensures value { Gives (tokens_of text.now) result }
 
     ensures order { IfOk result (λ tokens. AreInOrder 0 (length text.now) tokens.items) }
     ensures characters { IfOk result (λ tokens. All (IsBetweenCharacters text.now) tokens.items) }

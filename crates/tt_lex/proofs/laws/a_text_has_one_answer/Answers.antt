@@ -1,3 +1,4 @@
+use Rattle.tt_lex.specs.WholeLaws.{answer}
 use Rattle.tt_lex.proofs.OneWay.{same_tokens, same_fault, not_both}
 use Rattle.tt_lex.proofs.laws.a_text_has_one_answer.Goals as goal
 
@@ -9,3 +10,6 @@ returns-clause-fault c = same_fault
 
 pub returns-clause-not_both : goal.returns-clause-not_both
 returns-clause-not_both c = not_both
+
+pub returns-clause-some : goal.returns-clause-some
+returns-clause-some c = answer

@@ -4,7 +4,8 @@ use Rattle.std.proofs.lemmas.Bool.{eqb-true}
 use Rattle.std.proofs.lemmas.Result.{err_from_is_err_and}
 use Rattle.tt_lex.proofs.Characters.{HasTokens-between}
 use Rattle.tt_lex.proofs.OneWay.{same_tokens, same_fault, not_both}
-use Rattle.tt_lex.proofs.Reading.{one_more, at_end, at_fault, HasTokens-in_order}
+use Rattle.tt_lex.specs.ReadingLaws.{one_more, at_end, at_fault, HasTokens-in_order}
+use Rattle.tt_lex.proofs.Function.{tokens_law, fault_law}
 use Rattle.tt_lex.proofs.lexer.tokens.Goals as goal
 use Rattle.tt_lex.proofs.lexer.tokens.Goals.{in-Some+in_ok-push, in_default}
 
@@ -41,3 +42,12 @@ returns-clause-order c = HasTokens-in_order _ _ (at_end _ _ _ _ c.loop-rest.inva
 
 pub returns-clause-characters : goal.returns-clause-characters
 returns-clause-characters c = HasTokens-between _ _ c.utf8.text (at_end _ _ _ _ c.loop-rest.invariant (nil_from_length c.loop-rest.rest.now (eqb-true _ 0 (sym c.is_empty.ensures ∙ c.loop-rest-test.false))))
+
+pub returns-in_err-front-clause-value : goal.returns-in_err-front-clause-value
+returns-in_err-front-clause-value c =
+    let p = err_from_is_err_and c.from_residual.result c.from_residual.ensures.1 in
+    rw (p.1, p.2) ((fault_law c.args.text.now c.in_err-front.field-0.0).1 (at_fault _ _ _ _ _ c.loop-rest.invariant c.in_err-front.ensures.fault))
+
+pub returns-clause-value : goal.returns-clause-value
+returns-clause-value c =
+    (tokens_law c.args.text.now c.loop-rest.list.items).1 (at_end _ _ _ _ c.loop-rest.invariant (nil_from_length c.loop-rest.rest.now (eqb-true _ 0 (sym c.is_empty.ensures ∙ c.loop-rest-test.false))))

@@ -10,7 +10,7 @@ use Rattle.tt_lex.specs.declared.LexFault.{LexFault}
 use Rattle.tt_lex.specs.declared.scan.Front.{Front}
 use Rattle.tt_lex.specs.Lexis.{Piece, spelling, spelled, IsPiece, EndsBefore, ArePieces, kind_of, with_token, tokens_from, HasTokens, HasFault, IsFault, AreInOrder, IsSpelled}
 use Rattle.tt_lex.specs.Scanning.{Takes}
-use Rattle.tt_lex.proofs.Fronts.{spelling_some}
+use Rattle.tt_lex.specs.FrontLaws.{spelling_some}
 
 -- these bytes of the text are pieces, with these tokens among them, and the rest is left
 pub record HasRead (text rest : List ℕ) (at : ℕ) (tokens : List Token) : Type 0 where
