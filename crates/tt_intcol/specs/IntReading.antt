@@ -1,0 +1,91 @@
+-- Reading a column of numbers, with the place of the first fault.
+use Rattle.std.specs.Prelude.{◌≡◌, ℕ, zero, suc, ◌+◌, ◌-◌, ℤ, pos, ◌+ℤ◌, Bool, ◌&&◌, ◌==◌, if◌then◌else◌, List, length, map, Option, Result, Ok, Err}
+use Rattle.std.specs.List.{list_any, list_all}
+use Rattle.std.specs.Int.{w32, w64, w8, cast_signed}
+use Rattle.std.specs.Int.RustNames.{int_le}
+use Rattle.std.specs.Ordering.{int_cmp}
+use Rattle.tt_value.specs.declared.value.Kind.{Kind}
+use Rattle.tt_value.specs.declared.value.Kind.TheVariants.{Date}
+use Rattle.tt_value.specs.Packing.{width_of}
+use Rattle.tt_value.specs.ColumnReading.{◌>>=◌, checked, number_at, packed_at, values_at, run_values_at, dictionary_values_at, ended, flags_at, present_count, spread}
+use Rattle.tt_intcol.specs.declared.encoding.Encoding.{Encoding}
+use Rattle.tt_intcol.specs.declared.encoding.Encoding.TheVariants.{Plain, Frame, Run, Dictionary}
+use Rattle.tt_intcol.specs.declared.column.IntColumn.{IntColumn}
+use Rattle.tt_intcol.specs.declared.column.DecodeError.{DecodeError}
+use Rattle.tt_intcol.specs.declared.column.DecodeError.TheVariants as errors
+use Rattle.tt_intcol.specs.IntBody.{first_day, last_day, greatest_of, code, encoding_of}
+
+-- What a function returned, seen by view, is what reading gives, unless memory ran out.
+abbrev pub Fails : {Y : Type 0} → DecodeError → Result Y ℕ → Type 0
+Fails errors.Memory read = Unit {0}
+Fails (errors.BadColumn bad) read = read ≡ Err bad.place
+
+abbrev pub Gives : {X Y : Type 0} → (X → Y) → Result X DecodeError → Result Y ℕ → Type 0
+Gives view (Ok x) read = read ≡ Ok (view x)
+Gives view (Err e) read = Fails e read
+
+abbrev pub is_day : ℤ → Bool
+is_day v = int_le first_day v && int_le v last_day
+
+unfoldable pub date_at : ℕ → List ℕ → Result (ℤ × List ℕ) ℕ
+date_at end bytes = do
+  n ← number_at w32 end bytes
+  checked (is_day (cast_signed w32 n.0)) (end - length bytes) (cast_signed w32 n.0, n.1)
+
+unfoldable pub int_at : ℕ → List ℕ → Result (ℤ × List ℕ) ℕ
+int_at end bytes = do
+  n ← number_at w64 end bytes
+  Ok (cast_signed w64 n.0, n.1)
+
+abbrev pub value_at : Kind → ℕ → List ℕ → Result (ℤ × List ℕ) ℕ
+value_at Date end bytes = date_at end bytes
+value_at _ end bytes = int_at end bytes
+
+-- the greatest value of the kind
+abbrev pub top_of : Kind → ℤ
+top_of Date = last_day
+top_of _ = pos 9223372036854775807
+
+-- a value so far above another is not past the greatest of the kind
+abbrev pub is_within : Kind → ℤ → ℕ → Bool
+is_within kind low n = int_le (low +ℤ pos n) (top_of kind)
+
+-- The differences of a frame: the least is 0, the width is that of the greatest, and no value is past the greatest of the kind.
+abbrev pub is_frame : Kind → ℤ → ℕ → List ℕ → Bool
+is_frame kind low width ns = (list_any (λ n. n == 0) ns && width_of (greatest_of ns) == width) && list_all (is_within kind low) ns
+
+unfoldable pub frame_at : Kind → ℕ → ℕ → List ℕ → Result (List ℤ × List ℕ) ℕ
+frame_at kind end count bytes = do
+  low ← value_at kind end bytes
+  width ← number_at w8 end low.1
+  ns ← packed_at end width.0 count width.1
+  checked (is_frame kind low.0 width.0 ns.0) (end - length width.1) (map (λ n. low.0 +ℤ pos n) ns.0, ns.1)
+
+-- a frame of no values is a fault at the byte of the encoding
+abbrev pub body_at : Kind → Encoding → ℕ → ℕ → List ℕ → Result (List ℤ × List ℕ) ℕ
+body_at kind Plain end count bytes = values_at (value_at kind) int_cmp end count bytes
+body_at kind Frame end count bytes = if count == 0 then Err 0 else frame_at kind end count bytes
+body_at kind Run end count bytes = run_values_at (value_at kind) int_cmp end count bytes
+body_at kind Dictionary end count bytes = dictionary_values_at (value_at kind) int_cmp end count bytes
+
+abbrev pub encoding_at : ℕ → Result Encoding ℕ
+encoding_at zero = Ok Plain
+encoding_at (suc zero) = Ok Frame
+encoding_at (suc (suc zero)) = Ok Run
+encoding_at (suc (suc (suc zero))) = Ok Dictionary
+encoding_at _ = Err 0
+
+-- the values of the body, which ends behind its last part; the encoding is the shortest
+unfoldable pub values_in : Kind → Encoding → ℕ → ℕ → List ℕ → Result (List ℤ) ℕ
+values_in kind e end count bytes = do
+  read ← body_at kind e end count bytes
+  vs ← ended end read
+  checked (code (encoding_of kind vs) == code e) 0 vs
+
+-- the encoding, then the bitmap, then the body
+unfoldable pub rows_of : Kind → ℕ → IntColumn → Result (List (Option ℤ)) ℕ
+rows_of kind rows column = do
+  e ← encoding_at column.encoding
+  flags ← flags_at rows column.nulls column.bitmap
+  vs ← values_in kind e (length column.bitmap + length column.body) (present_count flags) column.body
+  Ok (spread flags vs)

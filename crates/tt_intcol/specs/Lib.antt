@@ -1,0 +1,2 @@
+pub mod IntBody
+pub mod IntReading

@@ -1,0 +1,19 @@
+//! Columns of numbers and dates as bytes: one spelling for each list of values, the shortest.
+#![tactic(auto)]
+
+mod bodies;
+mod choice;
+mod column;
+mod encoding;
+mod frame;
+mod parts;
+mod reading;
+mod rows;
+mod writing;
+
+pub use column::{BadColumn, DecodeError, EncodeError, IntColumn};
+pub use rows::decode;
+pub use writing::encode;
+
+#[cfg(test)]
+mod tests;

@@ -1,0 +1,125 @@
+//! The parts of a column's bytes: numbers, values, packed numbers and the bitmap.
+
+ghost use Rattle.std.specs.Prelude.{◌≡◌, ◌+◌, ◌-◌, ◌^◌, ◌<◌, ◌≤◌, length, All, Ok, Err};
+ghost use Rattle.std.specs.Int.{w8, w32, w64};
+ghost use Rattle.tt_value.specs.ColumnReading.{number_at, packed_at, count_at};
+ghost use Rattle.tt_intcol.specs.IntReading.{Gives, value_at, int_at, date_at, is_day as day_test};
+
+use crate::column::{BadColumn, DecodeError};
+use std::alloc::Global;
+use tt_value::{Kind, Sequence, packing};
+
+/// The first and the last day of the years 1 to 9999.
+pub const FIRST_DAY: i64 = -719_162;
+
+pub const LAST_DAY: i64 = 2_932_896;
+
+/// The place where what is left begins, if the bytes end at `end`.
+pub fn place(end: u64, bytes: &[u8]) -> u64
+    ensures { result ≡ end - length bytes.now }
+{
+    end.saturating_sub(bytes.len() as u64)
+}
+
+/// Bytes are below 256.
+fn are_bytes(bytes: &[u8])
+    ensures { All (λ byte. byte < 256) bytes.now }
+{}
+
+/// The bytes of a part.
+pub fn part(bytes: &Sequence<u8>) -> &[u8]
+    ensures same { result.now ≡ bytes.now }
+    ensures bytes { All (λ byte. byte < 256) result.now }
+{
+    let part = bytes.items();
+    are_bytes(part);
+    part
+}
+
+/// A fault at that place.
+pub fn bad(place: u64) -> DecodeError
+    ensures { result ≡ DecodeError.BadColumn (record { place = place }) }
+{
+    DecodeError::BadColumn(BadColumn { place })
+}
+
+pub fn read_byte(end: u64, bytes: &[u8]) -> Result<(u8, &[u8]), DecodeError>
+    ensures { Gives (λ x. (x.0, x.1.now)) result (number_at w8 end bytes.now) }
+{
+    match bytes.split_first() {
+        Some((first, rest)) => Ok((*first, rest)),
+        None => Err(bad(end)),
+    }
+}
+
+pub fn read_u32(end: u64, bytes: &[u8]) -> Result<(u32, &[u8]), DecodeError>
+    ensures { Gives (λ x. (x.0, x.1.now)) result (number_at w32 end bytes.now) }
+{
+    if bytes.len() < 4 {
+        return Err(bad(end));
+    }
+    let (front, rest) = bytes.split_at(4);
+    let number = u32::from_le_bytes([front[0], front[1], front[2], front[3]]);
+    Ok((number, rest))
+}
+
+pub fn read_u64(end: u64, bytes: &[u8]) -> Result<(u64, &[u8]), DecodeError>
+    ensures { Gives (λ x. (x.0, x.1.now)) result (number_at w64 end bytes.now) }
+{
+    if bytes.len() < 8 {
+        return Err(bad(end));
+    }
+    let (front, rest) = bytes.split_at(8);
+    let number = u64::from_le_bytes([
+        front[0], front[1], front[2], front[3], front[4], front[5], front[6], front[7],
+    ]);
+    Ok((number, rest))
+}
+
+pub fn is_day(number: i64) -> bool
+    ensures { result ≡ day_test number }
+{
+    FIRST_DAY <= number && number <= LAST_DAY
+}
+
+#[tactic(auto, unfolding(crate::specs::IntReading::int_at))]
+fn read_int(end: u64, bytes: &[u8]) -> Result<(i64, &[u8]), DecodeError>
+    ensures { Gives (λ x. (x.0, x.1.now)) result (int_at end bytes.now) }
+{
+    let (number, rest) = read_u64(end, bytes)?;
+    Ok((number.cast_signed(), rest))
+}
+
+#[tactic(auto, unfolding(crate::specs::IntReading::date_at))]
+fn read_date(end: u64, bytes: &[u8]) -> Result<(i64, &[u8]), DecodeError>
+    ensures { Gives (λ x. (x.0, x.1.now)) result (date_at end bytes.now) }
+{
+    let (number, rest) = read_u32(end, bytes)?;
+    let day = i64::from(number.cast_signed());
+    if !is_day(day) {
+        return Err(bad(place(end, bytes)));
+    }
+    Ok((day, rest))
+}
+
+/// A value of the kind.
+pub fn read_value(kind: Kind, end: u64, bytes: &[u8]) -> Result<(i64, &[u8]), DecodeError>
+    ensures { Gives (λ x. (x.0, x.1.now)) result (value_at kind end bytes.now) }
+{
+    match kind {
+        Kind::Date => read_date(end, bytes),
+        _ => read_int(end, bytes),
+    }
+}
+
+/// A number of runs or of distinct values.
+#[tactic(auto, unfolding(tt_value::specs::ColumnReading::count_at))]
+pub fn read_count(end: u64, most: usize, bytes: &[u8]) -> Result<(u32, &[u8]), DecodeError>
+    ensures { Gives (λ x. (x.0, x.1.now)) result (count_at end most bytes.now) }
+{
+    let (count, rest) = read_u32(end, bytes)?;
+    if count as usize > most || (count == 0 && most != 0) {
+        return Err(bad(place(end, bytes)));
+    }
+    Ok((count, rest))
+}
