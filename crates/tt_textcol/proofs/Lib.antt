@@ -1,0 +1,6 @@
+pub mod Counting
+pub mod Faults
+pub mod Lengths
+pub mod RowsAgain
+pub mod RowsTaken
+pub mod TextTests

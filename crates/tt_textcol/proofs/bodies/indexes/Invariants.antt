@@ -1,0 +1,7 @@
+use Rattle.std.proofs.Common.{◌≡◌, map, take}
+use Rattle.tt_value.specs.ColumnBody.{index_in}
+use Rattle.tt_textcol.specs.TextBody.{text_cmp}
+use Rattle.tt_textcol.proofs.bodies.indexes.Given as goal
+
+abbrev pub invariant-loop-value : goal.invariant-loop-value
+invariant-loop-value l = l.indexes.items ≡ map (index_in text_cmp l.entries) (take l.value-index l.values)

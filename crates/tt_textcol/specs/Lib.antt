@@ -1,0 +1,4 @@
+pub mod TextBody
+pub mod TextLaws
+pub mod TextNumber
+pub mod TextReading

@@ -1,0 +1,181 @@
+//! Reading a whole column.
+
+ghost use Rattle.std.specs.Prelude.{◌≡◌, ◌+◌, ◌-◌, ◌*◌, ◌^◌, ◌<◌, ◌≤◌, ◌==◌, List, ◌∷◌, length, drop, count_by, ℕ, Option, Ok, IfOk};
+ghost use Rattle.std.specs.List.{list_any, AllByRecursion};
+ghost use Rattle.tt_value.specs.ColumnBody.{present};
+ghost use Rattle.tt_value.specs.ColumnReading.{flags_at, has_flag, present_count, spread};
+ghost use Rattle.tt_textcol.specs.TextBody.{encoding_of, column_of, IsValue};
+ghost use Rattle.tt_textcol.specs.TextReading.{Gives, encoding_at, body_at, values_in, rows_of};
+
+use crate::choice;
+use crate::column::{DecodeError, TextColumn};
+use crate::encoding::Encoding;
+use crate::parts::{bad, place, read_packed};
+use crate::reading::{read_dictionary_values, read_run_values, read_values};
+use crate::text_ref::TextRef;
+use std::alloc::{AllocError, Global};
+use tt_value::Text;
+
+fn read_encoding(code: u8) -> Result<Encoding, DecodeError>
+    ensures { Gives (λ e. e) result (encoding_at code) }
+{
+    match code {
+        0 => Ok(Encoding::Plain),
+        2 => Ok(Encoding::Run),
+        3 => Ok(Encoding::Dictionary),
+        _ => Err(bad(0)),
+    }
+}
+
+fn has_flag(flags: &[u64]) -> bool
+    ensures { result ≡ has_flag flags.now }
+{
+    flags.iter().any(|flag| *flag == 1)
+}
+
+/// The flags of a bitmap: 1 for NULL.
+#[tactic(auto, unfolding(tt_value::specs::ColumnReading::flags_at))]
+fn read_flags(alloc: Global, rows: u32, nulls: bool, bitmap: &[u8]) -> Result<Vec<u64>, DecodeError>
+    ensures { Gives (λ v. v.items) result (flags_at rows nulls bitmap.now) }
+{
+    if !nulls {
+        if !bitmap.is_empty() {
+            return Err(bad(0));
+        }
+        return Ok(vec![in alloc; 0u64; rows as usize]?);
+    }
+    let end = bitmap.len() as u64;
+    let (flags, rest) = read_packed(alloc, end, 1, rows as usize, bitmap)?;
+    if !has_flag(&flags) {
+        return Err(bad(0));
+    }
+    if !rest.is_empty() {
+        return Err(bad(place(end, rest)));
+    }
+    Ok(flags)
+}
+
+/// A byte is below 256.
+fn bytes_fit(bytes: &[u8])
+    ensures { AllByRecursion (λ b. b < 2 ^ 8) bytes.now }
+{}
+
+fn count_present(flags: &[u64]) -> usize
+    ensures { result ≡ present_count flags.now }
+{
+    flags.iter().filter(|flag| **flag == 0).count()
+}
+
+/// The row of a flag, where the next text stands at `at`, and where the next one stands behind it. Here
+/// is the one copy of each text.
+fn row_at(
+    alloc: Global,
+    flag: u64,
+    values: &[TextRef<'_>],
+    at: usize,
+) -> Result<(Option<Text>, usize), AllocError>
+    ensures { IfOk result (λ x. (flags : List ℕ) → spread (flag ∷ flags) (drop at values.now) ≡ x.0 ∷ spread flags (drop x.1 values.now)) }
+{
+    match values.get(at) {
+        None => Ok((None, at)),
+        Some(value) => {
+            if flag != 0 {
+                return Ok((None, at));
+            }
+            Ok((Some(value.to_text(alloc)?), at + 1))
+        }
+    }
+}
+
+fn spread(
+    alloc: Global,
+    flags: &[u64],
+    values: &[TextRef<'_>],
+) -> Result<Vec<Option<Text>>, AllocError>
+    ensures { IfOk result (λ rows. rows.items ≡ spread flags.now values.now) }
+{
+    let mut rows = Vec::new(alloc);
+    let mut at = 0;
+    for flag in flags {
+        let (row, next) = row_at(alloc, *flag, values, at)?;
+        rows.push(row)?;
+        at = next;
+    }
+    Ok(rows)
+}
+
+/// The texts of a body of that form, so many.
+fn read_body(
+    alloc: Global,
+    encoding: Encoding,
+    end: u64,
+    count: usize,
+    bytes: &[u8],
+) -> Result<(Vec<TextRef<'_>>, &[u8]), DecodeError>
+    ensures { Gives (λ x. (x.0.items, x.1.now)) result (body_at encoding end count bytes.now) }
+{
+    match encoding {
+        Encoding::Plain => read_values(alloc, end, count, bytes),
+        Encoding::Run => read_run_values(alloc, end, count, bytes),
+        Encoding::Dictionary => read_dictionary_values(alloc, end, count, bytes),
+    }
+}
+
+/// The texts of the body, all of its bytes, where its form is the shortest.
+#[tactic(auto, unfolding(crate::specs::TextReading::values_in))]
+fn read_all(
+    alloc: Global,
+    encoding: Encoding,
+    end: u64,
+    count: usize,
+    bytes: &[u8],
+) -> Result<Vec<TextRef<'_>>, DecodeError>
+    ensures { Gives (λ v. v.items) result (values_in encoding end count bytes.now) }
+{
+    let (values, rest) = read_body(alloc, encoding, end, count, bytes)?;
+    if !rest.is_empty() {
+        return Err(bad(place(end, rest)));
+    }
+    bytes_fit(bytes);
+    if !choice::is_shortest(alloc, encoding, bytes.len(), &values)? {
+        return Err(bad(0));
+    }
+    Ok(values)
+}
+
+/// The rows of a column.
+#[tactic(auto, unfolding(crate::specs::TextReading::rows_of))]
+fn read_rows(
+    alloc: Global,
+    rows: u32,
+    column: &TextColumn,
+) -> Result<Vec<Option<Text>>, DecodeError>
+    ensures { Gives (λ v. v.items) result (rows_of rows column.now) }
+{
+    let encoding = read_encoding(column.encoding)?;
+    let bitmap = column.bitmap.items();
+    let body = column.body.items();
+    let flags = read_flags(alloc, rows, column.nulls, bitmap)?;
+    let end = bitmap.len() as u64 + body.len() as u64;
+    let values = read_all(alloc, encoding, end, count_present(&flags), body)?;
+    Ok(spread(alloc, &flags, &values)?)
+}
+
+/// The rows of a column: the texts in order, NULL where the bitmap has its bit. A column that no rows
+/// have is refused with the place of its first fault.
+pub fn decode(
+    alloc: Global,
+    rows: u32,
+    column: &TextColumn,
+) -> Result<Vec<Option<Text>>, DecodeError>
+    // The column of some rows is read as these rows.
+    ensures again { (vs : List (Option (List ℕ))) → AllByRecursion IsValue (present vs) → length vs ≡ rows → column.now ≡ column_of vs → Gives (λ v. v.items) result (Ok vs) }
+    // Which rows they are, or which place it is; only want of memory is free.
+    ensures exact { Gives (λ v. v.items) result (rows_of rows column.now) }
+    // What is read are so many rows, of values, and the column is their column.
+    ensures only { IfOk result (λ v. (column.now ≡ column_of v.items) × (length v.items ≡ rows) × AllByRecursion IsValue (present v.items)) }
+{
+    bytes_fit(column.bitmap.items());
+    bytes_fit(column.body.items());
+    read_rows(alloc, rows, column)
+}
