@@ -4,6 +4,7 @@ use Rattle.tt_history.specs.declared.script.Program.{Program}
 use Rattle.tt_history.specs.declared.history.Entry.{Entry}
 use Rattle.tt_history.specs.declared.history.EntryKind.{EntryKind}
 use Rattle.tt_history.specs.declared.history.EntryKind.TheVariants as kind
+use Rattle.tt_history.specs.declared.history.Added.{Added}
 use Rattle.tt_history.specs.declared.history.Actor.{Actor}
 use Rattle.tt_history.specs.declared.history.Actor.TheVariants as actor
 use Rattle.tt_history.specs.declared.plain.Plain.{Plain}
@@ -17,12 +18,17 @@ use Rattle.tt_history.specs.EndEntry.{end_step}
 use Rattle.tt_history.specs.AbandonEntry.{abandon_step}
 use Rattle.tt_history.specs.DefineEntry.{define_step}
 
--- what an entry of a session does, by its kind
+-- no partition is written yet, so an end has no facts of partitions
+abbrev pub has_no_facts : List ℕ → List Added → Bool
+has_no_facts gone added = length gone == 0 && length added == 0
+
+-- what an entry of a session does, by its kind; the kinds that are not here are made by no statement yet
 abbrev pub session_step : Program → Plain → ℕ → ℕ → ℕ → EntryKind → Option (Plain × Option Reply)
 session_step program store moment session index (kind.Start told) = start_step program store moment session index told
-session_step program store moment session index kind.End = end_step program store moment session index
+session_step program store moment session index (kind.End gone added) = if has_no_facts gone added then end_step program store moment session index else None
 session_step program store moment session index (kind.Abandon told) = abandon_step program store moment session index told
 session_step program store moment session index (kind.Define told) = define_step program store moment session index told
+session_step program store moment session index _ = None
 
 -- the workers make no entry by now
 abbrev pub actor_step : Program → Plain → Entry → Actor → Option (Plain × Option Reply)

@@ -24,16 +24,19 @@ use Rattle.tt_history.specs.StartEntry.{start_step, start_told, is_started}
 use Rattle.tt_history.specs.EndEntry.{end_step, end_of}
 use Rattle.tt_history.specs.AbandonEntry.{abandon_step}
 use Rattle.tt_history.specs.DefineEntry.{define_step, define_told, defined, is_definition}
-use Rattle.tt_history.specs.Replay.{Run, session_step, actor_step, step_of, replay_from, replay_of}
+use Rattle.tt_history.specs.Replay.{has_no_facts, Run, session_step, actor_step, step_of, replay_from, replay_of}
 
 -- whether an entry of this kind ends its statement: all do but a start that went well
 abbrev pub ends_statement : EntryKind → Bool
 ends_statement (kind.Start told.Done) = false
 ends_statement (kind.Start (told.Refused number)) = true
 ends_statement (kind.Start told.Memory) = true
-ends_statement kind.End = true
-ends_statement (kind.Abandon how) = true
-ends_statement (kind.Define how) = true
+ends_statement (kind.RecluStart table parts) = false
+ends_statement (kind.RecluEnd table gone added) = false
+ends_statement (kind.RecluMiss table why) = false
+ends_statement (kind.Purge parts) = false
+ends_statement kind.Close = false
+ends_statement _ = true
 
 -- each entry beside what it was told: a reply just where the entry ends its statement
 abbrev pub AnswersEach : List Entry → List (Option Reply) → Type 0
@@ -111,20 +114,30 @@ define_tells program store moment session index how =
     tells_bind true (next_statement program store session index) (λ s. only_if (is_definition s) s >>= λ definition. define_told program store moment session index definition how) (λ s.
     tells_bind true (only_if (is_definition s) s) (λ definition. define_told program store moment session index definition how) (λ definition. define_how program store moment session index definition how))
 
+tells_if : (answers test : Bool) (step : Option (Plain × Option Reply)) → Tells answers step → Tells answers (if test then step else None)
+tells_if answers true step tells = tells
+tells_if answers false step tells = tt
+
 session_tells : (program : Program) (store : Plain) (moment session index : ℕ) (k : EntryKind) → Tells (ends_statement k) (session_step program store moment session index k)
 session_tells program store moment session index (kind.Start how) = start_tells program store moment session index how
-session_tells program store moment session index kind.End = end_tells program store moment session index
+session_tells program store moment session index (kind.End gone added) = tells_if true (has_no_facts gone added) (end_step program store moment session index) (end_tells program store moment session index)
 session_tells program store moment session index (kind.Abandon how) = abandon_tells program store moment session index how
 session_tells program store moment session index (kind.Define how) = define_tells program store moment session index how
+session_tells program store moment session index (kind.Begin how) = tt
+session_tells program store moment session index (kind.Commit how) = tt
+session_tells program store moment session index kind.Rollback = tt
+session_tells program store moment session index (kind.Wait how) = tt
+session_tells program store moment session index (kind.Report how numbers) = tt
+session_tells program store moment session index (kind.RecluStart table parts) = tt
+session_tells program store moment session index (kind.RecluEnd table gone added) = tt
+session_tells program store moment session index (kind.RecluMiss table why) = tt
+session_tells program store moment session index (kind.Purge parts) = tt
+session_tells program store moment session index kind.Close = tt
 
 actor_tells : (program : Program) (store : Plain) (entry : Entry) (a : Actor) → Tells (ends_statement entry.kind) (actor_step program store entry a)
 actor_tells program store entry (actor.Session session) = session_tells program store entry.moment session entry.index entry.kind
 actor_tells program store entry actor.Recluster = tt
 actor_tells program store entry actor.Purge = tt
-
-tells_if : (answers test : Bool) (step : Option (Plain × Option Reply)) → Tells answers step → Tells answers (if test then step else None)
-tells_if answers true step tells = tells
-tells_if answers false step tells = tt
 
 -- A step that goes through answers just where its entry ends a statement.
 pub step_tells : (program : Program) (store : Plain) (entry : Entry) → Tells (ends_statement entry.kind) (step_of program store entry)

@@ -1,5 +1,5 @@
 -- What each kind of entry does, one equation for each way that it may go.
-use Rattle.std.proofs.Common.{◌≡◌, ℕ, ◌+◌, Bool, true, false, Option, Some, None, List, length, refl, sym, ◌∙◌, ap, arith, ◌==◌}
+use Rattle.std.proofs.Common.{◌≡◌, ℕ, ◌+◌, Bool, true, false, Option, Some, None, List, [], length, refl, sym, ◌∙◌, ap, arith, ◌==◌}
 use Rattle.std.specs.Prelude.{is_none}
 use Rattle.std.proofs.lemmas.Bool.Decides.{nat_tests}
 use Rattle.tt_value.specs.declared.value.Row.{Row}
@@ -70,10 +70,10 @@ module _ (program : Program) (store : Plain) (session index : ℕ) (statement : 
   abandoned seen begun = step_of-entry_at program store session index _ ∙ rw begun refl
 
 module _ (program : Program) (store : Plain) (session index : ℕ) (seen : PlainOpen) where
-  pub query_ended : (query : Query) → open_statement program store session index ≡ Some (statement.Query query, seen) → step_of program store (entry_at store session index kind.End) ≡ Some (with_ended program store (store.moment + 1) session index, Some (reply.Rows (answer_of seen)))
+  pub query_ended : (query : Query) → open_statement program store session index ≡ Some (statement.Query query, seen) → step_of program store (entry_at store session index (kind.End [] [])) ≡ Some (with_ended program store (store.moment + 1) session index, Some (reply.Rows (answer_of seen)))
   unfolding end_step
   query_ended query begun = step_of-entry_at program store session index _ ∙ rw begun refl
 
-  pub insert_ended : (insert : Insert) (target : ℕ × List Row) (committed : Plain) → open_statement program store session index ≡ Some (statement.Insert insert, seen) → seen.target ≡ Some target → with_commit store (store.moment + 1) target.0 insert.tuples ≡ Some committed → step_of program store (entry_at store session index kind.End) ≡ Some (with_ended program committed (store.moment + 1) session index, Some (reply.Inserted (length insert.tuples)))
+  pub insert_ended : (insert : Insert) (target : ℕ × List Row) (committed : Plain) → open_statement program store session index ≡ Some (statement.Insert insert, seen) → seen.target ≡ Some target → with_commit store (store.moment + 1) target.0 insert.tuples ≡ Some committed → step_of program store (entry_at store session index (kind.End [] [])) ≡ Some (with_ended program committed (store.moment + 1) session index, Some (reply.Inserted (length insert.tuples)))
   unfolding end_step
   insert_ended insert target committed begun aims commits = step_of-entry_at program store session index _ ∙ rw (begun, aims, commits) refl

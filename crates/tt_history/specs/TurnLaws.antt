@@ -1,6 +1,6 @@
 -- A session whose statement was answered is idle, with that statement done.
-use Rattle.std.proofs.Common.{◌≡◌, ℕ, zero, suc, ◌+◌, ◌-◌, ◌<◌, List, [], ◌∷◌, length, Option, Some, None, refl, sym, ◌∙◌, ap, subst, arith}
-use Rattle.std.specs.Prelude.{slice_get, slice_set, is_none, ◌==◌, ⊤}
+use Rattle.std.proofs.Common.{◌≡◌, Bool, true, false, ℕ, zero, suc, ◌+◌, ◌-◌, ◌<◌, List, [], ◌∷◌, length, Option, Some, None, refl, sym, ◌∙◌, ap, subst, arith}
+use Rattle.std.specs.Prelude.{if◌then◌else◌, slice_get, slice_set, is_none, ◌==◌, ⊤}
 use Rattle.std.proofs.lemmas.Option.{none-some, same_Some, slice_get_within}
 use Rattle.tt_value.specs.declared.value.Row.{Row}
 use Rattle.tt_history.specs.declared.script.Program.{Program}
@@ -27,7 +27,7 @@ use Rattle.tt_history.specs.StartEntry.{start_step, start_told, is_started}
 use Rattle.tt_history.specs.EndEntry.{end_step, end_of}
 use Rattle.tt_history.specs.AbandonEntry.{abandon_step}
 use Rattle.tt_history.specs.DefineEntry.{define_step, define_told, defined, is_definition}
-use Rattle.tt_history.specs.Replay.{step_of, session_step}
+use Rattle.tt_history.specs.Replay.{has_no_facts, step_of, session_step}
 use Rattle.tt_history.specs.StepLaws.{entry_at, step_of-entry_at}
 
 -- the session is idle, and this many of its statements are done
@@ -98,15 +98,20 @@ next_within program store session index s next = let n = next_is program store s
 open_within : (program : Program) (store : Plain) (session index : ℕ) (found : Statement × PlainOpen) → open_statement program store session index ≡ Some found → session < length store.sessions
 open_within program store session index found h = let o = open_is program store session index found.0 found.1 h in slice_get_within store.sessions session o.state o.at.state_is
 
+idles_if : (session index : ℕ) (test : Bool) (step : Option (Plain × Option Reply)) → Idles session index step → Idles session index (if test then step else None)
+idles_if session index true step idles = idles
+idles_if session index false step idles = tt
+
 kind_idles : (program : Program) (store : Plain) (moment session index : ℕ) (k : EntryKind) → Idles session index (session_step program store moment session index k)
 unfolding start_step end_step abandon_step define_step
 kind_idles program store moment session index (kind.Start t) =
     idles_bind session index (next_statement program store session index) (λ s. only_if (is_started s) s >>= λ begun. start_told program store moment session index begun t) (λ s next.
     idles_bind session index (only_if (is_started s) s) (λ begun. start_told program store moment session index begun t) (λ begun e.
     start_idles program store moment session index begun t (next_within program store session index s next)))
-kind_idles program store moment session index kind.End =
-    idles_bind session index (open_statement program store session index) (end_of program store moment session index) (λ opened found.
-    end_idles program store moment session index opened.0 opened.1 (open_within program store session index opened found))
+kind_idles program store moment session index (kind.End gone added) =
+    idles_if session index (has_no_facts gone added) (open_statement program store session index >>= end_of program store moment session index)
+    (idles_bind session index (open_statement program store session index) (end_of program store moment session index) (λ opened found.
+    end_idles program store moment session index opened.0 opened.1 (open_within program store session index opened found)))
 kind_idles program store moment session index (kind.Abandon how.Done) = tt
 kind_idles program store moment session index (kind.Abandon (how.Refused number)) = tt
 kind_idles program store moment session index (kind.Abandon how.Memory) =
@@ -116,6 +121,16 @@ kind_idles program store moment session index (kind.Define t) =
     idles_bind session index (next_statement program store session index) (λ s. only_if (is_definition s) s >>= λ definition. define_told program store moment session index definition t) (λ s next.
     idles_bind session index (only_if (is_definition s) s) (λ definition. define_told program store moment session index definition t) (λ definition e.
     define_idles program store moment session index definition t (next_within program store session index s next)))
+kind_idles program store moment session index (kind.Begin t) = tt
+kind_idles program store moment session index (kind.Commit t) = tt
+kind_idles program store moment session index kind.Rollback = tt
+kind_idles program store moment session index (kind.Wait t) = tt
+kind_idles program store moment session index (kind.Report t numbers) = tt
+kind_idles program store moment session index (kind.RecluStart table parts) = tt
+kind_idles program store moment session index (kind.RecluEnd table gone added) = tt
+kind_idles program store moment session index (kind.RecluMiss table why) = tt
+kind_idles program store moment session index (kind.Purge parts) = tt
+kind_idles program store moment session index kind.Close = tt
 
 idle_from : (session index : ℕ) (step : Option (Plain × Option Reply)) (new : Plain) (told : Reply) → Idles session index step → step ≡ Some (new, Some told) → IsIdle new session index
 idle_from session index step new told idles e = (subst (Idles session index) e idles) told refl

@@ -3,6 +3,7 @@ ghost use Rattle.tt_history.specs.Projection.{is_session, places_of};
 
 use std::alloc::{AllocError, Global};
 use std::marker::Model;
+use tt_value::Sequence;
 
 /// Who makes an entry. A session is its place in the script, from 0.
 #[derive(Clone, Copy, Debug, PartialEq, Eq)]
@@ -20,18 +21,64 @@ pub enum Told {
     Memory,
 }
 
-/// What an entry records of a statement.
+/// A partition that an entry adds, by its number: how many rows it has, and how many bytes its image has.
 #[derive(Clone, Copy, Debug, PartialEq, Eq)]
+pub struct Added {
+    pub number: u64,
+    pub rows: u32,
+    pub bytes: u64,
+}
+
+/// Why a round of reclustering changed nothing: its table was dropped; it was suspended or its key changed;
+/// a session has an exclusive mark on it; a partition has left it; or memory ran out.
+#[derive(Clone, Copy, Debug, PartialEq, Eq)]
+pub enum Miss {
+    Dropped,
+    Suspended,
+    Held(u32),
+    Gone(u64),
+    Memory,
+}
+
+/// What an entry records. Partitions are given by their numbers, in ascending order.
+#[derive(Debug, Drop)]
 pub enum EntryKind {
+    Begin(Told),
     Start(Told),
-    End,
+    End {
+        gone: Sequence<u64>,
+        added: Sequence<Added>,
+    },
     Abandon(Told),
+    Commit(Told),
+    Rollback,
     Define(Told),
+    Wait(Told),
+    /// With the numbers that a report gives beside its rows.
+    Report(Told, Sequence<u64>),
+    RecluStart {
+        table: u32,
+        parts: Sequence<u64>,
+    },
+    RecluEnd {
+        table: u32,
+        gone: Sequence<u64>,
+        added: Sequence<Added>,
+    },
+    RecluMiss {
+        table: u32,
+        why: Miss,
+    },
+    Purge {
+        parts: Sequence<u64>,
+    },
+    /// The end of a session that had temporary tables.
+    Close,
 }
 
 /// One event. The moment is in milliseconds since 1970-01-01 00:00:00 UTC, and the index is that of the
 /// actor's statement, from 1.
-#[derive(Clone, Copy, Debug, PartialEq, Eq)]
+#[derive(Debug, Drop)]
 pub struct Entry {
     pub moment: u64,
     pub actor: Actor,

@@ -13,7 +13,7 @@ pub mod sql;
 mod tests;
 mod words;
 
-pub use history::{Actor, Entry, EntryKind, History, Told};
+pub use history::{Actor, Added, Entry, EntryKind, History, Miss, Told};
 pub use plain::{Plain, PlainOpen, PlainSession, PlainTable, Version};
 pub use read_script::{read, session_statements};
 pub use read_sql::parse;

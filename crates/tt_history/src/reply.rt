@@ -6,12 +6,38 @@ use std::marker::Model;
 use std::sync::Arc;
 use tt_value::{Bag, Row};
 
-/// Why a statement was not carried out. A place is a byte offset from the statement's first token.
+/// Why a statement was not carried out, in the order of the refusals' numbers, which go from 1. Where
+/// nothing else is said the content is a place, a byte offset from the statement's first token.
 #[derive(Clone, Copy, Debug, PartialEq, Eq)]
 pub enum Refusal {
+    Syntax(u32),
     UnknownTable(u32),
     TableExists(u32),
+    UnknownColumn(u32),
     WrongCount(u32),
+    TypeMismatch(u32),
+    NullInNotNull(u32),
+    RetentionRange(u32),
+    KindMismatch(u32),
+    UnknownFile(u32),
+    InFuture,
+    UnknownStatement,
+    StatementOpen,
+    /// The moment at which the table was made.
+    NotYetMade(u64),
+    /// The earliest moment that can be read.
+    OutsideRetention(i64),
+    NothingToUndrop,
+    /// The session that holds the table, from 0.
+    LockHeld(u32),
+    ClockEnd,
+    InTransaction,
+    /// A staged record and its column, both from 1. The column is 0 where the record has another number
+    /// of fields than the table has columns.
+    BadData(u32, u32),
+    OutOfRange,
+    /// A column, from 1.
+    NullInRow(u32),
 }
 
 /// A bag that several owners share. Contracts see its rows.
