@@ -125,7 +125,7 @@ abandoned_allowed program old session index statement seen sound found =
       moved = ended_sound program old session index o.lines o.state sound o.at (open_known program old session index statement seen sound o).0;
     }
 
-pub query_allowed : (program : Program) (old : Plain) (session index : ℕ) (query : Query) (seen : PlainOpen) → IsSound program old → open_statement program old session index ≡ Some (statement.Query query, seen) → Allowed program old (entry_at old session index kind.End) (with_ended program old (old.moment + 1) session index) (Some (reply.Rows (answer_of seen)))
+pub query_allowed : (program : Program) (old : Plain) (session index : ℕ) (query : Query) (seen : PlainOpen) → IsSound program old → open_statement program old session index ≡ Some (statement.Query query, seen) → Allowed program old (entry_at old session index (kind.End [] [])) (with_ended program old (old.moment + 1) session index) (Some (reply.Rows (answer_of seen)))
 query_allowed program old session index query seen sound found =
     let o = open_is program old session index (statement.Query query) seen found in
     record {
@@ -133,7 +133,7 @@ query_allowed program old session index query seen sound found =
       moved = ended_sound program old session index o.lines o.state sound o.at (open_known program old session index (statement.Query query) seen sound o).0;
     }
 
-pub insert_allowed : (program : Program) (old committed : Plain) (session index : ℕ) (insert : Insert) (seen : PlainOpen) (target : ℕ × List Row) → IsSound program old → open_statement program old session index ≡ Some (statement.Insert insert, seen) → seen.target ≡ Some target → with_commit old (old.moment + 1) target.0 insert.tuples ≡ Some committed → Allowed program old (entry_at old session index kind.End) (with_ended program committed (old.moment + 1) session index) (Some (reply.Inserted (length insert.tuples)))
+pub insert_allowed : (program : Program) (old committed : Plain) (session index : ℕ) (insert : Insert) (seen : PlainOpen) (target : ℕ × List Row) → IsSound program old → open_statement program old session index ≡ Some (statement.Insert insert, seen) → seen.target ≡ Some target → with_commit old (old.moment + 1) target.0 insert.tuples ≡ Some committed → Allowed program old (entry_at old session index (kind.End [] [])) (with_ended program committed (old.moment + 1) session index) (Some (reply.Inserted (length insert.tuples)))
 insert_allowed program old committed session index insert seen target sound found aims commits =
     let o = open_is program old session index (statement.Insert insert) seen found in
     record {

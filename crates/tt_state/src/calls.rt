@@ -1,4 +1,4 @@
-ghost use Rattle.std.specs.Prelude.{◌≡◌, true, Some, None, length, All, IfOk, IfErr, IsSome, IsOkAnd};
+ghost use Rattle.std.specs.Prelude.{◌≡◌, true, Some, None, [], length, All, IfOk, IfErr, IsSome, IsOkAnd};
 ghost use Rattle.tt_value.specs.RowText.{IsPrintable};
 ghost use Rattle.tt_history.specs.Store.{next_statement, open_statement};
 ghost use Rattle.tt_history.specs.SelectRows.{answer_of};
@@ -16,7 +16,9 @@ ghost use Rattle.tt_state.specs.Tickets.{opened_by, IsOpenTicket, IsQueryTicket,
 
 use crate::catalog::Catalog;
 use crate::ticket::{Built, Started, Ticket};
+use std::alloc::Global;
 use tt_history::{Actor, Entry, EntryKind, Reply, Statement, Syntax, Told};
+use tt_value::Sequence;
 
 fn session_entry(moment: u64, session: u32, index: u32, kind: EntryKind) -> Entry
     ensures { result ≡ record { moment = moment; actor = actor.Session session; index = index; kind = kind } }
@@ -26,6 +28,16 @@ fn session_entry(moment: u64, session: u32, index: u32, kind: EntryKind) -> Entr
         actor: Actor::Session(session),
         index: index as u64,
         kind,
+    }
+}
+
+/// The end of a statement that takes away and adds no partition. It takes no memory.
+fn end_without_parts(alloc: Global) -> EntryKind
+    ensures { result ≡ kind.End [] [] }
+{
+    EntryKind::End {
+        gone: Sequence::new(alloc),
+        added: Sequence::new(alloc),
     }
 }
 
@@ -79,7 +91,7 @@ pub fn start(
 /// memory.
 pub fn end_read(cat: &mut Catalog, ticket: Ticket)
     requires { IsQueryTicket cat.old ticket }
-    ensures { MadeEntry cat.old cat.new (entry_at cat.old.store ticket.session ticket.index kind.End) (Some (reply.Rows (answer_of (opened_by ticket)))) }
+    ensures { MadeEntry cat.old cat.new (entry_at cat.old.store ticket.session ticket.index (kind.End [] [])) (Some (reply.Rows (answer_of (opened_by ticket)))) }
 {
     let Ticket {
         session,
@@ -89,7 +101,12 @@ pub fn end_read(cat: &mut Catalog, ticket: Ticket)
     } = ticket;
     let moment = cat.state.moment + 1;
     cat.state.end_statement(&cat.program, session, index);
-    let entry = session_entry(moment, session, index, EntryKind::End);
+    let entry = session_entry(
+        moment,
+        session,
+        index,
+        end_without_parts(*cat.state.tables.allocator()),
+    );
     cat.history.push(entry);
 }
 
@@ -116,7 +133,7 @@ pub fn abandon(cat: &mut Catalog, ticket: Ticket, why: Told)
 /// ticket back, and then the catalog is unchanged.
 pub fn end_change(cat: &mut Catalog, ticket: Ticket, built: Built) -> Result<Reply, Ticket>
     requires { IsBuiltFor cat.old ticket built }
-    ensures ok { IfOk result (λ answer. MadeEntry cat.old cat.new (entry_at cat.old.store ticket.session ticket.index kind.End) (Some answer)) }
+    ensures ok { IfOk result (λ answer. MadeEntry cat.old cat.new (entry_at cat.old.store ticket.session ticket.index (kind.End [] [])) (Some answer)) }
     ensures counted { IfOk result (λ answer. answer ≡ reply.Inserted built.count) }
     ensures ticket { IfErr result (λ again. again ≡ ticket) }
     ensures unchanged { IfErr result (λ _. cat.new ≡ cat.old) }
@@ -137,7 +154,12 @@ pub fn end_change(cat: &mut Catalog, ticket: Ticket, built: Built) -> Result<Rep
         target: _target,
     } = ticket;
     cat.state.end_statement(&cat.program, session, index);
-    let entry = session_entry(moment, session, index, EntryKind::End);
+    let entry = session_entry(
+        moment,
+        session,
+        index,
+        end_without_parts(*cat.state.tables.allocator()),
+    );
     cat.history.push(entry);
     Ok(Reply::Inserted(count))
 }

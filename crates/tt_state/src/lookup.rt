@@ -99,8 +99,27 @@ pub fn refusal_number(refusal: Refusal) -> u8
     ensures { result ≡ number_of refusal }
 {
     match refusal {
+        Refusal::Syntax(_) => 1,
         Refusal::UnknownTable(_) => 2,
         Refusal::TableExists(_) => 3,
+        Refusal::UnknownColumn(_) => 4,
         Refusal::WrongCount(_) => 5,
+        Refusal::TypeMismatch(_) => 6,
+        Refusal::NullInNotNull(_) => 7,
+        Refusal::RetentionRange(_) => 8,
+        Refusal::KindMismatch(_) => 9,
+        Refusal::UnknownFile(_) => 10,
+        Refusal::InFuture => 11,
+        Refusal::UnknownStatement => 12,
+        Refusal::StatementOpen => 13,
+        Refusal::NotYetMade(_) => 14,
+        Refusal::OutsideRetention(_) => 15,
+        Refusal::NothingToUndrop => 16,
+        Refusal::LockHeld(_) => 17,
+        Refusal::ClockEnd => 18,
+        Refusal::InTransaction => 19,
+        Refusal::BadData(_, _) => 20,
+        Refusal::OutOfRange => 21,
+        Refusal::NullInRow(_) => 22,
     }
 }

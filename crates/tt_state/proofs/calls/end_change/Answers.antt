@@ -1,5 +1,6 @@
 use Rattle.std.proofs.Common.{◌≡◌, ◌+◌, ◌∷◌, ◌++◌, [], Some, length, sym, ap, ◌∙◌, subst, arith}
 use Rattle.std.specs.Option.{option_map}
+use Rattle.tt_history.specs.declared.history.EntryKind.{EntryKind}
 use Rattle.tt_history.specs.declared.history.EntryKind.TheVariants as kind
 use Rattle.tt_history.specs.declared.reply.Reply.TheVariants as reply
 use Rattle.tt_history.specs.declared.sql.Statement.TheVariants as statement
@@ -59,7 +60,7 @@ invariant_of-cat-2 c =
     let allowed = insert_allowed c.cat.inside.program old committed c.args.ticket.session c.args.ticket.index c.requires.insert (opened_by c.args.ticket) (seen_rows c.in-Some.seen) c.cat.invariant.sound found (ap (option_map seen_rows) c.in-Some.is) commits in
     let kept = (committed_ready _ _ _ _ _ _ _ _ (open_ready _ _ _ _ _ _ c.cat.invariant found) c.in-Ok.ensures.ok).0 in
     let same = c.end_statement.ensures ∙ ap (λ m. with_ended c.cat.inside.program committed (m + 1) c.args.ticket.session c.args.ticket.index) kept in
-    let longer = c.push.ensures.entries ∙ ap (λ e. c.cat.inside.history.list ++ e ∷ []) c.session_entry-entry.ensures in
+    let longer = c.push.ensures.entries ∙ ap (λ e. c.cat.inside.history.list ++ e ∷ []) c.session_entry-entry.ensures ∙ ap (λ (k : EntryKind). c.cat.inside.history.list ++ entry_at (plain_of c.cat.inside.state) c.args.ticket.session c.args.ticket.index k ∷ []) c.end_without_parts.ensures in
     goes_on _ _ _ _ _ _ _ _ c.cat.invariant allowed longer same c.push.ensures.room
 
 pub returns-clause-ok : goal.returns-clause-ok
@@ -71,8 +72,8 @@ returns-clause-ok c =
     let allowed = insert_allowed c.cat.inside.program old committed c.args.ticket.session c.args.ticket.index c.requires.insert (opened_by c.args.ticket) (seen_rows c.in-Some.seen) c.cat.invariant.sound found (ap (option_map seen_rows) c.in-Some.is) commits in
     let kept = (committed_ready _ _ _ _ _ _ _ _ (open_ready _ _ _ _ _ _ c.cat.invariant found) c.in-Ok.ensures.ok).0 in
     let same = c.end_statement.ensures ∙ ap (λ m. with_ended c.cat.inside.program committed (m + 1) c.args.ticket.session c.args.ticket.index) kept in
-    let longer = c.push.ensures.entries ∙ ap (λ e. c.cat.inside.history.list ++ e ∷ []) c.session_entry-entry.ensures in
+    let longer = c.push.ensures.entries ∙ ap (λ e. c.cat.inside.history.list ++ e ∷ []) c.session_entry-entry.ensures ∙ ap (λ (k : EntryKind). c.cat.inside.history.list ++ entry_at (plain_of c.cat.inside.state) c.args.ticket.session c.args.ticket.index k ∷ []) c.end_without_parts.ensures in
     let new : Book = record { program = c.cat.inside.program; cap = c.cat.inside.cap; history = c.push.new.self.list; store = plain_of c.end_statement.new.self } in
     let before : Book = record { program = c.cat.inside.program; cap = c.cat.inside.cap; history = c.cat.inside.history.list; store = old } in
-    let counted : MadeEntry before new (entry_at old c.args.ticket.session c.args.ticket.index kind.End) (Some (reply.Inserted c.args.built.count)) = rw c.requires.count (made before _ _ _ _ _ allowed longer same) in
-    subst (λ (b : Book). MadeEntry b new (entry_at b.store c.args.ticket.session c.args.ticket.index kind.End) (Some (reply.Inserted c.args.built.count))) c.cat.view_is counted
+    let counted : MadeEntry before new (entry_at old c.args.ticket.session c.args.ticket.index (kind.End [] [])) (Some (reply.Inserted c.args.built.count)) = rw c.requires.count (made before _ _ _ _ _ allowed longer same) in
+    subst (λ (b : Book). MadeEntry b new (entry_at b.store c.args.ticket.session c.args.ticket.index (kind.End [] [])) (Some (reply.Inserted c.args.built.count))) c.cat.view_is counted
