@@ -15,7 +15,7 @@ use Rattle.tt_run.specs.AnsweredLines.{next_reply, later_replies, answered_lines
 told_text : (program : Program) (entry : Entry) (entries : List Entry) (r : Option Reply) (told : List (Option Reply)) → is_some r ≡ ends_statement entry.kind → lines_of program entries told ≡ answered_lines program entries (given_replies told) → lines_of program (entry ∷ entries) (r ∷ told) ≡ answered_lines program (entry ∷ entries) (given_replies (r ∷ told))
 unfolding lines_of answered_lines
 told_text program entry entries None told ends later = rw (sym ends) (ap (λ text. (journal_line program entry ++ []) ++ text) later)
-told_text program entry entries (Some r) told ends later = rw (sym ends) (ap (λ text. (journal_line program entry ++ told_reply (Some r)) ++ text) later)
+told_text program entry entries (Some r) told ends later = rw (sym ends) (ap (λ text. (journal_line program entry ++ told_reply program (Some r)) ++ text) later)
 
 pub lines_answered : (program : Program) (entries : List Entry) (told : List (Option Reply)) → AnswersEach entries told → lines_of program entries told ≡ answered_lines program entries (given_replies told)
 unfolding lines_of answered_lines
@@ -40,12 +40,12 @@ unfolding answered_lines
 answered_none program left = refl
 
 -- the entry at i is written: what stands, with the lines that are left, is the same text
-pub answered_more : (program : Program) (done : List ℕ) (entries : List Entry) (i : ℕ) (other : Entry) (left : List Reply) (all : List ℕ) → i < length entries → done ++ answered_lines program (drop i entries) left ≡ all → ((done ++ journal_line program (get_or entries i other)) ++ told_reply (next_reply (get_or entries i other).kind left)) ++ answered_lines program (drop (i + 1) entries) (later_replies (get_or entries i other).kind left) ≡ all
+pub answered_more : (program : Program) (done : List ℕ) (entries : List Entry) (i : ℕ) (other : Entry) (left : List Reply) (all : List ℕ) → i < length entries → done ++ answered_lines program (drop i entries) left ≡ all → ((done ++ journal_line program (get_or entries i other)) ++ told_reply program (next_reply (get_or entries i other).kind left)) ++ answered_lines program (drop (i + 1) entries) (later_replies (get_or entries i other).kind left) ≡ all
 unfolding answered_lines
 answered_more program done entries i other left all below stands =
     let entry = get_or entries i other in
     let step : answered_lines program (drop i entries) left ≡ answered_lines program (entry ∷ drop (i + 1) entries) left = ap (λ (es : List Entry). answered_lines program es left) (drop_more entries i other below) in
-    let joined : ((done ++ journal_line program entry) ++ told_reply (next_reply entry.kind left)) ++ answered_lines program (drop (i + 1) entries) (later_replies entry.kind left) ≡ done ++ answered_lines program (entry ∷ drop (i + 1) entries) left = simp append_assoc in
+    let joined : ((done ++ journal_line program entry) ++ told_reply program (next_reply entry.kind left)) ++ answered_lines program (drop (i + 1) entries) (later_replies entry.kind left) ≡ done ++ answered_lines program (entry ∷ drop (i + 1) entries) left = simp append_assoc in
     joined ∙ (ap (λ (text : List ℕ). done ++ text) (sym step) ∙ stands)
 
 -- a history without entries has no replies

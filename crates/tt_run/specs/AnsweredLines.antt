@@ -18,4 +18,4 @@ later_replies kind replies = if ends_statement kind then drop 1 replies else rep
 -- each entry's line with its reply
 unfoldable pub answered_lines : Program → List Entry → List Reply → List ℕ
 answered_lines program [] replies = []
-answered_lines program (entry ∷ entries) replies = journal_line program entry ++ told_reply (next_reply entry.kind replies) ++ answered_lines program entries (later_replies entry.kind replies)
+answered_lines program (entry ∷ entries) replies = journal_line program entry ++ told_reply program (next_reply entry.kind replies) ++ answered_lines program entries (later_replies entry.kind replies)

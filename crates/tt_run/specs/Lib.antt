@@ -4,4 +4,5 @@ pub mod TurnsLaws
 pub mod RunLaws
 pub mod Outcomes
 pub mod Top
+pub mod Failures
 pub mod Words

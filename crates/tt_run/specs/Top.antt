@@ -1,11 +1,47 @@
 -- The statuses of the top call and their causes.
-use Rattle.std.specs.Prelude.{◌≡◌, ℕ, List, Option, Some, None, ⊤}
+use Rattle.std.specs.Prelude.{◌≡◌, ◌⊎◌, ℕ, List, length, is_some, nat_lt, if◌then◌else◌, ⊤}
+use Rattle.tt_history.specs.Script.{program_of}
+use Rattle.tt_run.specs.Words.{are_replay_words}
 use Rattle.tt_run.specs.declared.top.Status.{Status}
 use Rattle.tt_run.specs.declared.top.Status.TheVariants as status
+
+-- the number with which the program ends
+abbrev pub number_of : Status → ℕ
+number_of status.Ok = 0
+number_of status.BadWords = 2
+number_of (status.BadInput place) = 3
+number_of status.ReadFault = 4
+number_of status.WriteFault = 5
+number_of status.OutOfMemory = 6
+number_of status.TooLong = 7
 
 -- the most bytes of an input
 abbrev pub longest_input : ℕ
 longest_input = 67108864
+
+-- the status that the bytes of an input ask for
+abbrev pub input_status : List ℕ → Status
+input_status input = if nat_lt longest_input (length input) then status.TooLong else if is_some (program_of input) then status.Ok else status.BadInput 0
+
+-- the status that is due where memory is found and no read or write fails
+abbrev pub due_status : List (List ℕ) → List ℕ → Status
+due_status words input = if are_replay_words words then input_status input else status.BadWords
+
+-- a status is the one that is due, or what may come before it: want of memory, a failed read, or a failed write where Ok is due
+abbrev pub IsDue : Status → Status → Type 0
+IsDue due status.ReadFault = ⊤
+IsDue due status.OutOfMemory = ⊤
+IsDue due status.WriteFault = due ≡ status.Ok
+IsDue due given = given ≡ due
+
+-- a status is the one that is due, or want of memory
+abbrev pub IsDueOrMemory : Status → Status → Type 0
+IsDueOrMemory due given = (given ≡ due) ⊎ (given ≡ status.OutOfMemory)
+
+-- a fact of the place of a bad input
+abbrev pub IfBadInput : Status → (ℕ → Type 0) → Type 0
+IfBadInput (status.BadInput place) P = P place
+IfBadInput other P = ⊤
 
 -- what may end the call before its run is done
 abbrev pub IsEarly : Status → Type 0

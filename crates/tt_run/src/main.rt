@@ -1,16 +1,20 @@
 //! Replays a script of table statements, and prints each reply with the journal of the events.
 #![tactic(auto)]
 
+mod failure;
 mod run;
 mod session;
+mod settle;
 #[cfg(test)]
 mod tests;
 mod top;
 mod transcript;
 mod words;
 
+use failure::failure_of;
 use std::process::ExitCode;
 use std::{env, io};
+use top::{Status, top_alone};
 use tt_edge::{StdSink, StdSource};
 
 fn arguments(rt: &HostRuntime) -> io::Result<Vec<String>> {
@@ -21,15 +25,22 @@ fn arguments(rt: &HostRuntime) -> io::Result<Vec<String>> {
     Ok(words)
 }
 
-fn main(rt: HostRuntime) -> ExitCode {
-    let Ok(words) = arguments(&rt) else {
-        return ExitCode::from(top::Status::OutOfMemory.number());
+// A word that is not UTF-8 is no word of the command line.
+fn serve(rt: &HostRuntime) -> Status {
+    let words = match arguments(rt) {
+        Ok(words) => words,
+        Err(e) if e.kind() == io::ErrorKind::InvalidData => return Status::BadWords,
+        Err(_) => return Status::OutOfMemory,
     };
     let mut source = StdSource::new(rt.stdin());
     let mut sink = StdSink::new(rt.stdout());
-    let outcome = top::top_alone(rt.alloc(), words.as_slice(), &mut source, &mut sink);
-    if outcome.status != top::Status::Ok {
-        let _ = eprintln!(rt; "{}", outcome.status);
+    top_alone(rt.alloc(), words.as_slice(), &mut source, &mut sink).status
+}
+
+fn main(rt: HostRuntime) -> ExitCode {
+    let status = serve(&rt);
+    if let Some(failure) = failure_of(status) {
+        let _ = eprintln!(rt; "{failure}");
     }
-    ExitCode::from(outcome.status.number())
+    ExitCode::from(status.number())
 }

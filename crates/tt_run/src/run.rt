@@ -8,6 +8,7 @@ ghost use Rattle.tt_run.specs.Turns.{HasReplies, AreStatements, IsFirstDone};
 ghost use Rattle.tt_run.specs.Outcomes.{IsFinished, IsTranscript};
 
 use crate::session::run_statement;
+use crate::settle::settle;
 use crate::transcript::transcript;
 use std::alloc::{AllocError, Global};
 use tt_history::{Program, ReadError, Reply, SessionText, Statement, session_statements};
@@ -88,7 +89,7 @@ pub struct Finished {
     pub text: Vec<u8>,
 }
 
-/// Runs a program's sessions one after the other, each to its end, and writes the transcript down.
+/// Runs a program's sessions one after the other, each to its end, settles, and writes the transcript down.
 pub fn run_program(alloc: Global, program: &Program) -> Result<Finished, AllocError>
     requires { WasRead program.now }
     ensures finished { IfOk result (λ finished. IsFinished program.now finished.store) }
@@ -96,6 +97,7 @@ pub fn run_program(alloc: Global, program: &Program) -> Result<Finished, AllocEr
 {
     let mut store = Catalog::new(alloc, program, PARTITION_ROWS)?;
     let replies = all_replies(&mut store, alloc, program)?;
+    settle(&mut store);
     let text = transcript(
         alloc,
         program,

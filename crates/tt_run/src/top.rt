@@ -1,20 +1,20 @@
 //! The top call: from the words and the bytes that come in to the bytes that go out.
 
-ghost use Rattle.std.specs.Prelude.{◌≡◌, ◌≢◌, ◌<◌, ◌≤◌, ◌-◌, ◌↔◌, ℕ, None, map, string_bytes, take, true, false, IfOk, IfErr, OnOk, IfSome, OnSome, IfNone, IsSome, IsErrOf};
-ghost use Rattle.std.specs.Io.KnownBytes.{Appends, IsAtEnd};
+ghost use Rattle.std.specs.Prelude.{◌≡◌, ◌<◌, ◌+◌, ◌-◌, ◌^◌, ◌↔◌, ℕ, Some, map, string_bytes, take, length, false, IfOk, IfErr, OnOk, IfSome, OnSome, IfNone, IsSome, IsErrOf};
+ghost use Rattle.std.specs.Io.KnownBytes.{Appends, IsAtEnd, Keeps};
 ghost use Rattle.tt_edge.specs.Outside.{Rose};
+ghost use Rattle.tt_history.specs.Answers.{Reads};
 ghost use Rattle.tt_history.specs.Script.{program_of};
 ghost use Rattle.tt_history.specs.Replay.{IsLegal, IsComplete};
 ghost use Rattle.tt_history.specs.Transcript.{transcript_of};
 ghost use Rattle.tt_history.specs.ProgramLaws.{WasRead};
 ghost use Rattle.tt_run.specs.Outcomes.{IsFinished, IsTranscript, Stands};
 ghost use Rattle.tt_run.specs.Words.{are_replay_words};
-ghost use Rattle.tt_run.specs.Top.{longest_input, IsEarly, IsLate};
+ghost use Rattle.tt_run.specs.Top.{number_of, longest_input, input_status, due_status, IsDue, IsDueOrMemory, IfBadInput, IsEarly, IsLate};
 
 use crate::run::{Finished, run_program};
 use crate::words::is_replay;
 use std::alloc::Global;
-use std::fmt;
 use tt_edge::{Sink, Source, Unread, Unwritten, read_all, write_all};
 use tt_history::{Program, ReadError, read};
 use tt_state::Catalog;
@@ -36,7 +36,9 @@ pub enum Status {
 
 impl Status {
     /// The number with which the program ends.
-    pub fn number(self) -> u8 {
+    pub fn number(self) -> u8
+        ensures { result ≡ number_of self }
+    {
         match self {
             Status::Ok => 0,
             Status::BadWords => 2,
@@ -49,25 +51,20 @@ impl Status {
     }
 }
 
-impl fmt::Display for Status {
-    fn fmt<W: fmt::Write>(&self, f: &mut fmt::Formatter<W>) -> fmt::Result {
-        match self {
-            Status::Ok => write!(f, "ok"),
-            Status::BadWords => write!(f, "bad words"),
-            Status::BadInput(place) => write!(f, "bad input at {place}"),
-            Status::ReadFault => write!(f, "read fault"),
-            Status::WriteFault => write!(f, "write fault"),
-            Status::OutOfMemory => write!(f, "out of memory"),
-            Status::TooLong => write!(f, "input too long"),
-        }
-    }
-}
-
 /// The status, and the store where the run was done and something of it may have been written.
 #[derive(Drop)]
 pub struct Outcome {
     pub status: Status,
     pub store: Option<Catalog>,
+}
+
+// Reads the script, and says of the program that it was read.
+fn read_script(alloc: Global, bytes: Vec<u8>) -> Result<Program, ReadError>
+    requires { length bytes.items < 2 ^ 32 }
+    ensures read { Reads (λ program. program) result (program_of bytes.items) }
+    ensures was_read { IfOk result WasRead }
+{
+    read(alloc, bytes)
 }
 
 // Reads the input to its end and the script from it.
@@ -76,8 +73,9 @@ fn read_program<S: Source>(alloc: Global, source: &mut S) -> Result<Program, Sta
     ensures was_read { IfOk result WasRead }
     ensures end { OnOk result (IsAtEnd (S.left source.new)) }
     ensures early { IfErr result IsEarly }
-    ensures bad_end { IfErr result (λ status. status ≡ Status.BadInput 0 → IsAtEnd (S.left source.new)) }
-    ensures bad_input { IfErr result (λ status. status ≡ Status.BadInput 0 → IfSome (S.left source.old) (λ left. program_of left ≡ None)) }
+    ensures bad_input { IfErr result (λ status. IfBadInput status (λ _. IsAtEnd (S.left source.new))) }
+    ensures due { IfSome (S.left source.old) (λ input. IfErr result (IsDue (input_status input))) }
+    ensures due_ok { IfSome (S.left source.old) (λ input. OnOk result (input_status input ≡ Status.Ok)) }
     ensures too_long { IsErrOf result Status.TooLong ↔ (longest_input < S.given source.new - S.given source.old) }
     ensures failed { IsErrOf result Status.ReadFault → Rose (S.faults source.old) (S.faults source.new) }
 {
@@ -87,7 +85,7 @@ fn read_program<S: Source>(alloc: Global, source: &mut S) -> Result<Program, Sta
         Err(Unread::TooLong) => return Err(Status::TooLong),
         Err(Unread::Memory) => return Err(Status::OutOfMemory),
     };
-    match read(alloc, bytes) {
+    match read_script(alloc, bytes) {
         Ok(program) => Ok(program),
         Err(ReadError::Bad) => Err(Status::BadInput(0)),
         Err(ReadError::Memory) => Err(Status::OutOfMemory),
@@ -98,10 +96,15 @@ fn read_program<S: Source>(alloc: Global, source: &mut S) -> Result<Program, Sta
 fn finish<K: Sink>(sink: &mut K, finished: Finished) -> Outcome
     ensures kept { IfSome result.store (λ store. store ≡ finished.store) }
     ensures whole { result.status ≡ Status.Ok → Appends (K.holds sink.old) (K.holds sink.new) finished.text.items }
-    ensures prefix { OnSome result.store ((written : ℕ) × Appends (K.holds sink.old) (K.holds sink.new) (take written finished.text.items)) }
+    ensures whole_counted { result.status ≡ Status.Ok → K.received sink.new ≡ K.received sink.old + length finished.text.items }
+    ensures prefix { OnSome result.store ((written : ℕ)
+        × Appends (K.holds sink.old) (K.holds sink.new) (take written finished.text.items)
+        × (K.received sink.new ≡ K.received sink.old + written)) }
     ensures nothing { IfNone result.store (K.received sink.new ≡ K.received sink.old) }
+    ensures untouched { IfNone result.store (Keeps (K.holds sink.old) (K.holds sink.new)) }
     ensures ok { result.status ≡ Status.Ok → IsSome result.store }
     ensures fault { result.status ≡ Status.WriteFault → IsSome result.store }
+    ensures memory { result.status ≡ Status.OutOfMemory → (IsSome result.store ↔ (K.received sink.old < K.received sink.new)) }
     ensures failed { result.status ≡ Status.WriteFault → Rose (K.faults sink.old) (K.faults sink.new) }
     ensures late { IsLate result.status }
 {
@@ -140,23 +143,37 @@ pub fn top_alone<S: Source, K: Sink>(
     // The bytes written are the transcript, or a prefix of it where writing failed.
     ensures transcript { result.status ≡ Status.Ok → IfSome result.store (λ store.
         Appends (K.holds sink.old) (K.holds sink.new) (transcript_of store.program store.history)) }
-    ensures prefix { IfSome result.store (λ store. (written : ℕ) ×
-        Appends (K.holds sink.old) (K.holds sink.new) (take written (transcript_of store.program store.history))) }
+    ensures counted { result.status ≡ Status.Ok → IfSome result.store (λ store.
+        K.received sink.new ≡ K.received sink.old + length (transcript_of store.program store.history)) }
+    ensures prefix { IfSome result.store (λ store. (written : ℕ)
+        × Appends (K.holds sink.old) (K.holds sink.new) (take written (transcript_of store.program store.history))
+        × (K.received sink.new ≡ K.received sink.old + written)) }
     ensures nothing { IfNone result.store (K.received sink.new ≡ K.received sink.old) }
+    ensures untouched { IfNone result.store (Keeps (K.holds sink.old) (K.holds sink.new)) }
 
     // The program is what the grammar reads from all that the source gave, to its end.
     ensures read { IfSome result.store (λ store. IfSome (S.left source.old) (λ left. program_of left ≡ Some store.program)) }
     ensures end { OnSome result.store (IsAtEnd (S.left source.new)) }
 
-    // Each status by its cause.
-    ensures words { (result.status ≡ Status.BadWords) ↔ (are_replay_words (map string_bytes words.now) ≡ false) }
+    // When there is a store.
     ensures ok { result.status ≡ Status.Ok → IsSome result.store }
     ensures fault { result.status ≡ Status.WriteFault → IsSome result.store }
-    ensures write_fault { result.status ≡ Status.WriteFault → Rose (K.faults sink.old) (K.faults sink.new) }
+    ensures memory { result.status ≡ Status.OutOfMemory → (IsSome result.store ↔ (K.received sink.old < K.received sink.new)) }
+    ensures late { OnSome result.store (IsLate result.status) }
+
+    // Each status by its cause.
+    ensures words { (result.status ≡ Status.BadWords) ↔ (are_replay_words (map string_bytes words.now) ≡ false) }
     ensures read_fault { result.status ≡ Status.ReadFault → Rose (S.faults source.old) (S.faults source.new) }
-    ensures too_long { result.status ≡ Status.TooLong → longest_input < S.given source.new - S.given source.old }
-    ensures bad_input { result.status ≡ Status.BadInput 0 → IfSome (S.left source.old) (λ left. program_of left ≡ None) }
-    ensures bad_end { result.status ≡ Status.BadInput 0 → IsAtEnd (S.left source.new) }
+    ensures too_long { (result.status ≡ Status.TooLong) ↔ (longest_input < S.given source.new - S.given source.old) }
+    ensures bad_input { IfBadInput result.status (λ place. (place ≡ 0) × IsAtEnd (S.left source.new)) }
+    ensures write_fault { result.status ≡ Status.WriteFault → Rose (K.faults sink.old) (K.faults sink.new) }
+
+    // Where the source tells its bytes, the words and the bytes say which status is due. Faults and want of
+    // memory alone may stand in its place, and where no count of faults rose, want of memory alone.
+    ensures due { IfSome (S.left source.old) (λ input. IsDue (due_status (map string_bytes words.now) input) result.status) }
+    ensures answered { IfSome (S.left source.old) (λ input.
+        (Rose (S.faults source.old) (S.faults source.new) → ⊥) → (Rose (K.faults sink.old) (K.faults sink.new) → ⊥)
+        → IsDueOrMemory (due_status (map string_bytes words.now) input) result.status) }
 {
     if !is_replay(words) {
         return Outcome {

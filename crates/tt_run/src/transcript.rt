@@ -1,18 +1,18 @@
 //! The text of a history: a line for each entry, the lines of the reply where the entry ends a statement,
 //! and the count of entries.
 
-ghost use Rattle.std.specs.Prelude.{◌≡◌, ◌++◌, All, IfOk, OnOk, length};
-ghost use Rattle.std.specs.Fmt.{decimal};
+ghost use Rattle.std.specs.Prelude.{◌≡◌, codes, ◌++◌, All, IfOk, OnOk, length, slice_get};
+ghost use Rattle.std.specs.Fmt.{decimal, signed_decimal};
 ghost use Rattle.std.specs.List.{flat_map};
 ghost use Rattle.std.specs.Option.{option_copied};
 ghost use Rattle.tt_value.specs.RowText.{IsPrintable};
 ghost use Rattle.tt_history.specs.ReplayLaws.{ends_statement as is_last_entry};
-ghost use Rattle.tt_history.specs.Transcript.{AreReplies, actor_text, told_text, kind_text, journal_line, refusal_text, row_line, reply_text, told_reply, end_line, transcript_of};
+ghost use Rattle.tt_history.specs.Transcript.{AreReplies, name_of, actor_text, told_text, gone_text, part_text, added_text, report_text, miss_text, kind_text, journal_line, refusal_text, row_line, reply_text, told_reply, end_line, transcript_of};
 ghost use Rattle.tt_run.specs.AnsweredLines.{next_reply, later_replies, answered_lines};
 
 use itoa::Buffer;
 use std::alloc::{AllocError, Global};
-use tt_history::{Actor, Entry, EntryKind, Program, Refusal, Reply, Told};
+use tt_history::{Actor, Added, Entry, EntryKind, Miss, Program, Refusal, Reply, Told};
 use tt_value::{Row, write_row};
 
 /// The transcript of a history whose statements were answered by these replies, in order.
@@ -42,18 +42,18 @@ fn write_entries(
 {
     let mut left = replies;
     for entry in entries {
-        let (reply, later) = take_reply(entry.kind, left);
+        let (reply, later) = take_reply(&entry.kind, left);
         write_journal_line(program, entry, out)?;
-        write_told_reply(reply, out)?;
+        write_told_reply(program, reply, out)?;
         left = later;
     }
     Ok(())
 }
 
 /// The reply of an entry of this kind, and the replies of the entries after it.
-fn take_reply(kind: EntryKind, replies: &[Reply]) -> (Option<&Reply>, &[Reply])
-    ensures taken { option_copied result.0 ≡ next_reply kind replies.now }
-    ensures later { result.1.now ≡ later_replies kind replies.now }
+fn take_reply<'a>(kind: &EntryKind, replies: &'a [Reply]) -> (Option<&'a Reply>, &'a [Reply])
+    ensures taken { option_copied result.0 ≡ next_reply kind.now replies.now }
+    ensures later { result.1.now ≡ later_replies kind.now replies.now }
 {
     match replies.split_first() {
         Some((reply, later)) if ends_statement(kind) => (Some(reply), later),
@@ -61,10 +61,18 @@ fn take_reply(kind: EntryKind, replies: &[Reply]) -> (Option<&Reply>, &[Reply])
     }
 }
 
-fn ends_statement(kind: EntryKind) -> bool
-    ensures { result ≡ is_last_entry kind }
+fn ends_statement(kind: &EntryKind) -> bool
+    ensures { result ≡ is_last_entry kind.now }
 {
-    !matches!(kind, EntryKind::Start(Told::Done))
+    match kind {
+        EntryKind::Start(Told::Done) => false,
+        EntryKind::RecluStart { .. } => false,
+        EntryKind::RecluEnd { .. } => false,
+        EntryKind::RecluMiss { .. } => false,
+        EntryKind::Purge { .. } => false,
+        EntryKind::Close => false,
+        _ => true,
+    }
 }
 
 #[tactic(auto, unfolding(tt_history::specs::Transcript::journal_line))]
@@ -78,7 +86,7 @@ fn write_journal_line(program: &Program, entry: &Entry, out: &mut Vec<u8>) -> Re
     write_bytes(b" ", out)?;
     write_number(entry.index, out)?;
     write_bytes(b" ", out)?;
-    write_kind(entry.kind, out)?;
+    write_kind(program, &entry.kind, out)?;
     write_bytes(b"\n", out)?;
     Ok(())
 }
@@ -87,35 +95,174 @@ fn write_actor(program: &Program, actor: Actor, out: &mut Vec<u8>) -> Result<(),
     ensures ok { OnOk result (out.new.items ≡ out.old.items ++ actor_text program.now actor) }
 {
     match actor {
-        Actor::Session(session) => {
-            if let Some(lines) = program.sessions.get(session as usize) {
-                write_bytes(lines.name.as_str().as_bytes(), out)?;
-            }
-        }
-        Actor::Recluster => write_bytes(b"@recluster", out)?,
-        Actor::Purge => write_bytes(b"@purge", out)?,
+        Actor::Session(session) => write_session(program, session, out),
+        Actor::Recluster => write_bytes(b"@recluster", out),
+        Actor::Purge => write_bytes(b"@purge", out),
+    }
+}
+
+fn write_session(program: &Program, session: u32, out: &mut Vec<u8>) -> Result<(), AllocError>
+    ensures ok { OnOk result (out.new.items
+        ≡ out.old.items ++ name_of (slice_get program.now.sessions session)) }
+{
+    if let Some(lines) = program.sessions.get(session as usize) {
+        write_bytes(lines.name.as_str().as_bytes(), out)?;
     }
     Ok(())
 }
 
-fn write_kind(kind: EntryKind, out: &mut Vec<u8>) -> Result<(), AllocError>
-    ensures ok { OnOk result (out.new.items ≡ out.old.items ++ kind_text kind) }
+fn write_kind(program: &Program, kind: &EntryKind, out: &mut Vec<u8>) -> Result<(), AllocError>
+    ensures ok { OnOk result (out.new.items ≡ out.old.items ++ kind_text program.now kind.now) }
 {
     match kind {
-        EntryKind::Start(told) => {
-            write_bytes(b"start", out)?;
-            write_told(told, out)?;
+        EntryKind::Begin(told) => write_outcome(b"begin", *told, out),
+        EntryKind::Start(told) => write_outcome(b"start", *told, out),
+        EntryKind::End { gone, added } => write_parts(b"end", gone.items(), added.items(), out),
+        EntryKind::Abandon(told) => write_outcome(b"abandon", *told, out),
+        EntryKind::Commit(told) => write_outcome(b"commit", *told, out),
+        EntryKind::Rollback => write_bytes(b"rollback", out),
+        EntryKind::Define(told) => write_outcome(b"define", *told, out),
+        EntryKind::Wait(told) => write_outcome(b"wait", *told, out),
+        EntryKind::Report(told, numbers) => write_report(*told, numbers.items(), out),
+        EntryKind::RecluStart { table, parts } => write_round(*table, parts.items(), out),
+        EntryKind::RecluEnd { table, gone, added } => {
+            write_landing(*table, gone.items(), added.items(), out)
         }
-        EntryKind::End => write_bytes(b"end", out)?,
-        EntryKind::Abandon(told) => {
-            write_bytes(b"abandon", out)?;
-            write_told(told, out)?;
-        }
-        EntryKind::Define(told) => {
-            write_bytes(b"define", out)?;
-            write_told(told, out)?;
-        }
+        EntryKind::RecluMiss { table, why } => write_miss(program, *table, *why, out),
+        EntryKind::Purge { parts } => write_purge(parts.items(), out),
+        EntryKind::Close => write_bytes(b"close", out),
     }
+}
+
+/// A word, and how the call went.
+fn write_outcome(word: &[u8], told: Told, out: &mut Vec<u8>) -> Result<(), AllocError>
+    ensures ok { OnOk result (out.new.items ≡ out.old.items ++ (word.now ++ told_text told)) }
+{
+    write_bytes(word, out)?;
+    write_told(told, out)?;
+    Ok(())
+}
+
+/// A word, and the partitions that are taken away and added.
+fn write_parts(
+    word: &[u8],
+    gone: &[u64],
+    added: &[Added],
+    out: &mut Vec<u8>,
+) -> Result<(), AllocError>
+    ensures ok { OnOk result (out.new.items
+        ≡ out.old.items ++ (word.now ++ gone_text gone.now ++ added_text added.now)) }
+{
+    write_bytes(word, out)?;
+    write_gone(gone, out)?;
+    write_added(added, out)?;
+    Ok(())
+}
+
+fn write_gone(parts: &[u64], out: &mut Vec<u8>) -> Result<(), AllocError>
+    ensures ok { OnOk result (out.new.items ≡ out.old.items ++ gone_text parts.now) }
+{
+    for number in parts {
+        write_numbered(b" -", *number, out)?;
+    }
+    Ok(())
+}
+
+fn write_added(parts: &[Added], out: &mut Vec<u8>) -> Result<(), AllocError>
+    ensures ok { OnOk result (out.new.items ≡ out.old.items ++ added_text parts.now) }
+{
+    for part in parts {
+        write_part(part, out)?;
+    }
+    Ok(())
+}
+
+fn write_part(part: &Added, out: &mut Vec<u8>) -> Result<(), AllocError>
+    ensures ok { OnOk result (out.new.items ≡ out.old.items ++ part_text part.now) }
+{
+    write_numbered(b" +", part.number, out)?;
+    write_numbered(b":", u64::from(part.rows), out)?;
+    write_numbered(b":", part.bytes, out)?;
+    Ok(())
+}
+
+fn write_report(told: Told, numbers: &[u64], out: &mut Vec<u8>) -> Result<(), AllocError>
+    ensures ok { OnOk result (out.new.items
+        ≡ out.old.items ++ (codes "report" ++ told_text told ++ report_text numbers.now)) }
+{
+    write_outcome(b"report", told, out)?;
+    write_numbers(numbers, out)?;
+    Ok(())
+}
+
+fn write_numbers(numbers: &[u64], out: &mut Vec<u8>) -> Result<(), AllocError>
+    ensures ok { OnOk result (out.new.items ≡ out.old.items ++ report_text numbers.now) }
+{
+    for number in numbers {
+        write_numbered(b" ", *number, out)?;
+    }
+    Ok(())
+}
+
+fn write_round(table: u32, parts: &[u64], out: &mut Vec<u8>) -> Result<(), AllocError>
+    ensures ok { OnOk result (out.new.items
+        ≡ out.old.items ++ (codes "recluster " ++ decimal table ++ gone_text parts.now)) }
+{
+    write_numbered(b"recluster ", u64::from(table), out)?;
+    write_gone(parts, out)?;
+    Ok(())
+}
+
+fn write_landing(
+    table: u32,
+    gone: &[u64],
+    added: &[Added],
+    out: &mut Vec<u8>,
+) -> Result<(), AllocError>
+    ensures ok { OnOk result (out.new.items
+        ≡ out.old.items ++ (codes "landed " ++ decimal table ++ gone_text gone.now ++ added_text added.now)) }
+{
+    write_numbered(b"landed ", u64::from(table), out)?;
+    write_gone(gone, out)?;
+    write_added(added, out)?;
+    Ok(())
+}
+
+fn write_miss(program: &Program, table: u32, why: Miss, out: &mut Vec<u8>) -> Result<(), AllocError>
+    ensures ok { OnOk result (out.new.items
+        ≡ out.old.items ++ (codes "missed " ++ decimal table ++ miss_text program.now why)) }
+{
+    write_numbered(b"missed ", u64::from(table), out)?;
+    write_why(program, why, out)?;
+    Ok(())
+}
+
+fn write_why(program: &Program, why: Miss, out: &mut Vec<u8>) -> Result<(), AllocError>
+    ensures ok { OnOk result (out.new.items ≡ out.old.items ++ miss_text program.now why) }
+{
+    match why {
+        Miss::Dropped => write_bytes(b" dropped", out),
+        Miss::Suspended => write_bytes(b" suspended", out),
+        Miss::Held(session) => write_held(program, session, out),
+        Miss::Gone(number) => write_numbered(b" gone ", number, out),
+        Miss::Memory => write_bytes(b" memory", out),
+    }
+}
+
+fn write_held(program: &Program, session: u32, out: &mut Vec<u8>) -> Result<(), AllocError>
+    ensures ok { OnOk result (out.new.items
+        ≡ out.old.items ++ miss_text program.now (Miss.Held session)) }
+{
+    write_bytes(b" held ", out)?;
+    write_session(program, session, out)?;
+    Ok(())
+}
+
+fn write_purge(parts: &[u64], out: &mut Vec<u8>) -> Result<(), AllocError>
+    ensures ok { OnOk result (out.new.items ≡ out.old.items ++ (codes "purge" ++ gone_text parts.now)) }
+{
+    write_bytes(b"purge", out)?;
+    write_gone(parts, out)?;
     Ok(())
 }
 
@@ -129,19 +276,23 @@ fn write_told(told: Told, out: &mut Vec<u8>) -> Result<(), AllocError>
     }
 }
 
-fn write_told_reply(reply: Option<&Reply>, out: &mut Vec<u8>) -> Result<(), AllocError>
+fn write_told_reply(
+    program: &Program,
+    reply: Option<&Reply>,
+    out: &mut Vec<u8>,
+) -> Result<(), AllocError>
     ensures ok { OnOk result (out.new.items
-        ≡ out.old.items ++ told_reply (option_copied reply.entry)) }
+        ≡ out.old.items ++ told_reply program.now (option_copied reply.entry)) }
 {
     match reply {
-        Some(reply) => write_reply(reply, out),
+        Some(reply) => write_reply(program, reply, out),
         None => Ok(()),
     }
 }
 
 #[tactic(auto, unfolding(tt_history::specs::Transcript::reply_text))]
-fn write_reply(reply: &Reply, out: &mut Vec<u8>) -> Result<(), AllocError>
-    ensures ok { OnOk result (out.new.items ≡ out.old.items ++ reply_text reply.now) }
+fn write_reply(program: &Program, reply: &Reply, out: &mut Vec<u8>) -> Result<(), AllocError>
+    ensures ok { OnOk result (out.new.items ≡ out.old.items ++ reply_text program.now reply.now) }
 {
     match reply {
         Reply::Ok => write_bytes(b"= ok\n", out)?,
@@ -158,7 +309,7 @@ fn write_reply(reply: &Reply, out: &mut Vec<u8>) -> Result<(), AllocError>
         }
         Reply::Refused(refusal) => {
             write_bytes(b"! ", out)?;
-            write_refusal(*refusal, out)?;
+            write_refusal(program, refusal, out)?;
             write_bytes(b"\n", out)?;
         }
         Reply::Memory => write_bytes(b"! memory\n", out)?,
@@ -186,13 +337,59 @@ fn write_row_line(row: &Row, out: &mut Vec<u8>) -> Result<(), AllocError>
     Ok(())
 }
 
-fn write_refusal(refusal: Refusal, out: &mut Vec<u8>) -> Result<(), AllocError>
-    ensures ok { OnOk result (out.new.items ≡ out.old.items ++ refusal_text refusal) }
+/// The name of the session that holds the table.
+fn write_holder(program: &Program, session: u32, out: &mut Vec<u8>) -> Result<(), AllocError>
+    ensures ok { OnOk result (out.new.items
+        ≡ out.old.items ++ refusal_text program.now (Refusal.LockHeld session)) }
+{
+    write_bytes(b"17 LockHeld ", out)?;
+    write_session(program, session, out)?;
+    Ok(())
+}
+
+fn write_refusal(program: &Program, refusal: &Refusal, out: &mut Vec<u8>) -> Result<(), AllocError>
+    ensures ok { OnOk result (out.new.items ≡ out.old.items ++ refusal_text program.now refusal.now) }
 {
     match refusal {
-        Refusal::UnknownTable(place) => write_numbered(b"2 UnknownTable ", u64::from(place), out),
-        Refusal::TableExists(place) => write_numbered(b"3 TableExists ", u64::from(place), out),
-        Refusal::WrongCount(place) => write_numbered(b"5 WrongCount ", u64::from(place), out),
+        Refusal::Syntax(place) => write_numbered(b"1 Syntax ", u64::from(*place), out),
+        Refusal::UnknownTable(place) => write_numbered(b"2 UnknownTable ", u64::from(*place), out),
+        Refusal::TableExists(place) => write_numbered(b"3 TableExists ", u64::from(*place), out),
+        Refusal::UnknownColumn(place) => write_numbered(
+            b"4 UnknownColumn ",
+            u64::from(*place),
+            out,
+        ),
+        Refusal::WrongCount(place) => write_numbered(b"5 WrongCount ", u64::from(*place), out),
+        Refusal::TypeMismatch(place) => write_numbered(b"6 TypeMismatch ", u64::from(*place), out),
+        Refusal::NullInNotNull(place) => write_numbered(
+            b"7 NullInNotNull ",
+            u64::from(*place),
+            out,
+        ),
+        Refusal::RetentionRange(place) => write_numbered(
+            b"8 RetentionRange ",
+            u64::from(*place),
+            out,
+        ),
+        Refusal::KindMismatch(place) => write_numbered(b"9 KindMismatch ", u64::from(*place), out),
+        Refusal::UnknownFile(place) => write_numbered(b"10 UnknownFile ", u64::from(*place), out),
+        Refusal::InFuture => write_bytes(b"11 InFuture", out),
+        Refusal::UnknownStatement => write_bytes(b"12 UnknownStatement", out),
+        Refusal::StatementOpen => write_bytes(b"13 StatementOpen", out),
+        Refusal::NotYetMade(made) => write_numbered(b"14 NotYetMade ", *made, out),
+        Refusal::OutsideRetention(horizon) => {
+            write_signed(b"15 OutsideRetention ", *horizon, out)
+        }
+        Refusal::NothingToUndrop => write_bytes(b"16 NothingToUndrop", out),
+        Refusal::LockHeld(session) => write_holder(program, *session, out),
+        Refusal::ClockEnd => write_bytes(b"18 ClockEnd", out),
+        Refusal::InTransaction => write_bytes(b"19 InTransaction", out),
+        Refusal::BadData(record, column) => {
+            write_numbered(b"20 BadData ", u64::from(*record), out)?;
+            write_numbered(b" ", u64::from(*column), out)
+        }
+        Refusal::OutOfRange => write_bytes(b"21 OutOfRange", out),
+        Refusal::NullInRow(column) => write_numbered(b"22 NullInRow ", u64::from(*column), out),
     }
 }
 
@@ -219,6 +416,16 @@ fn write_number(number: u64, out: &mut Vec<u8>) -> Result<(), AllocError>
 {
     let mut digits = Buffer::new();
     write_bytes(digits.format(number).as_bytes(), out)
+}
+
+/// Appends the text and the number behind it.
+fn write_signed(text: &[u8], number: i64, out: &mut Vec<u8>) -> Result<(), AllocError>
+    ensures ok { OnOk result (out.new.items ≡ out.old.items ++ (text.now ++ signed_decimal number)) }
+{
+    let mut digits = Buffer::new();
+    write_bytes(text, out)?;
+    write_bytes(digits.format(number).as_bytes(), out)?;
+    Ok(())
 }
 
 fn write_bytes(bytes: &[u8], out: &mut Vec<u8>) -> Result<(), AllocError>

@@ -5,7 +5,8 @@ use super::{transcript, write_end, write_entries, write_journal_line, write_repl
 use std::alloc::Global;
 use std::test::Fail;
 use tt_history::{
-    Actor, Entry, EntryKind, Program, Refusal, Reply, ScriptText, SessionText, SharedBag, Told,
+    Actor, Added, Entry, EntryKind, Miss, Program, Refusal, Reply, ScriptText, SessionText,
+    SharedBag, Told,
 };
 use tt_value::{Bag, Row, Sequence, Text, Value};
 
@@ -30,6 +31,30 @@ fn entry(moment: u64, index: u64, kind: EntryKind) -> Entry {
         index,
         kind,
     }
+}
+
+fn numbers(alloc: Global, numbers: &[u64]) -> Result<Sequence<u64>, Fail> {
+    Ok(Sequence::from_vec(numbers.to_vec(alloc)?))
+}
+
+/// Partitions by number, rows and bytes.
+fn added(alloc: Global, parts: &[(u64, u32, u64)]) -> Result<Sequence<Added>, Fail> {
+    let mut added = Sequence::new(alloc);
+    for (number, rows, bytes) in parts {
+        added.push(Added {
+            number: *number,
+            rows: *rows,
+            bytes: *bytes,
+        })?;
+    }
+    Ok(added)
+}
+
+fn end_of(alloc: Global, gone: &[u64], parts: &[(u64, u32, u64)]) -> Result<EntryKind, Fail> {
+    Ok(EntryKind::End {
+        gone: numbers(alloc, gone)?,
+        added: added(alloc, parts)?,
+    })
 }
 
 fn number_row(alloc: Global, number: i64) -> Result<Row, Fail>
@@ -57,9 +82,9 @@ fn a_reply_stands_behind_the_entry_that_ends_its_statement(rt: HostRuntime) -> R
     let entries = [
         entry(1, 1, EntryKind::Define(Told::Done)),
         entry(2, 2, EntryKind::Start(Told::Done)),
-        entry(3, 2, EntryKind::End),
+        entry(3, 2, end_of(alloc, &[], &[])?),
         entry(4, 3, EntryKind::Start(Told::Done)),
-        entry(5, 3, EntryKind::End),
+        entry(5, 3, end_of(alloc, &[], &[])?),
     ];
     let mut replies = Vec::new(alloc);
     replies.push(Reply::Ok)?;
@@ -101,7 +126,120 @@ fn an_entry_is_told_by_its_moment_actor_index_and_kind(rt: HostRuntime) -> Resul
             EntryKind::Start(Told::Memory),
             "@3 a 4 start memory\n",
         ),
-        (9, Actor::Session(0), 7, EntryKind::End, "@9 a 7 end\n"),
+        (
+            9,
+            Actor::Session(0),
+            7,
+            end_of(alloc, &[], &[])?,
+            "@9 a 7 end\n",
+        ),
+        (
+            7,
+            Actor::Session(0),
+            3,
+            end_of(alloc, &[1], &[(3, 1, 29)])?,
+            "@7 a 3 end -1 +3:1:29\n",
+        ),
+        (
+            1,
+            Actor::Session(0),
+            3,
+            EntryKind::Begin(Told::Done),
+            "@1 a 3 begin\n",
+        ),
+        (
+            1,
+            Actor::Session(0),
+            3,
+            EntryKind::Begin(Told::Refused(19)),
+            "@1 a 3 begin refused 19\n",
+        ),
+        (
+            5,
+            Actor::Session(0),
+            4,
+            EntryKind::Commit(Told::Done),
+            "@5 a 4 commit\n",
+        ),
+        (
+            8,
+            Actor::Session(0),
+            5,
+            EntryKind::Rollback,
+            "@8 a 5 rollback\n",
+        ),
+        (
+            86_400_003,
+            Actor::Session(0),
+            3,
+            EntryKind::Wait(Told::Done),
+            "@86400003 a 3 wait\n",
+        ),
+        (
+            5,
+            Actor::Session(0),
+            4,
+            EntryKind::Report(Told::Done, numbers(alloc, &[3, 0])?),
+            "@5 a 4 report 3 0\n",
+        ),
+        (
+            5,
+            Actor::Session(0),
+            4,
+            EntryKind::Report(Told::Refused(2), numbers(alloc, &[])?),
+            "@5 a 4 report refused 2\n",
+        ),
+        (
+            6,
+            Actor::Recluster,
+            1,
+            EntryKind::RecluStart {
+                table: 1,
+                parts: numbers(alloc, &[1, 2])?,
+            },
+            "@6 @recluster 1 recluster 1 -1 -2\n",
+        ),
+        (
+            7,
+            Actor::Recluster,
+            1,
+            EntryKind::RecluEnd {
+                table: 1,
+                gone: numbers(alloc, &[1, 2])?,
+                added: added(alloc, &[(3, 2, 31), (4, 2, 31)])?,
+            },
+            "@7 @recluster 1 landed 1 -1 -2 +3:2:31 +4:2:31\n",
+        ),
+        (
+            9,
+            Actor::Recluster,
+            1,
+            EntryKind::RecluMiss {
+                table: 1,
+                why: Miss::Gone(1),
+            },
+            "@9 @recluster 1 missed 1 gone 1\n",
+        ),
+        (
+            9,
+            Actor::Recluster,
+            1,
+            EntryKind::RecluMiss {
+                table: 1,
+                why: Miss::Held(0),
+            },
+            "@9 @recluster 1 missed 1 held a\n",
+        ),
+        (
+            11,
+            Actor::Purge,
+            1,
+            EntryKind::Purge {
+                parts: numbers(alloc, &[2])?,
+            },
+            "@11 @purge 1 purge -2\n",
+        ),
+        (4, Actor::Session(0), 4, EntryKind::Close, "@4 a 4 close\n"),
         (
             9,
             Actor::Session(0),
@@ -127,15 +265,10 @@ fn an_entry_is_told_by_its_moment_actor_index_and_kind(rt: HostRuntime) -> Resul
             253_402_300_799_999,
             Actor::Purge,
             2,
-            EntryKind::End,
-            "@253402300799999 @purge 2 end\n",
-        ),
-        (
-            5,
-            Actor::Recluster,
-            3,
-            EntryKind::End,
-            "@5 @recluster 3 end\n",
+            EntryKind::Purge {
+                parts: numbers(alloc, &[18_446_744_073_709_551_615])?,
+            },
+            "@253402300799999 @purge 2 purge -18446744073709551615\n",
         ),
     ] {
         let entry = Entry {
@@ -154,6 +287,7 @@ fn an_entry_is_told_by_its_moment_actor_index_and_kind(rt: HostRuntime) -> Resul
 #[test]
 fn each_reply_has_its_lines(rt: HostRuntime) -> Result<(), Fail> {
     let alloc = rt.alloc();
+    let program = program(alloc)?;
     let no_rows = SharedBag::new(alloc, number_bag(alloc, &[])?)?;
     let rows = SharedBag::new(alloc, number_bag(alloc, &[7, -1])?)?;
     for (reply, wanted) in [
@@ -173,10 +307,21 @@ fn each_reply_has_its_lines(rt: HostRuntime) -> Result<(), Fail> {
             Reply::Refused(Refusal::WrongCount(21)),
             "! 5 WrongCount 21\n",
         ),
+        (Reply::Refused(Refusal::InFuture), "! 11 InFuture\n"),
+        (
+            Reply::Refused(Refusal::NotYetMade(253_402_300_799_999)),
+            "! 14 NotYetMade 253402300799999\n",
+        ),
+        (
+            Reply::Refused(Refusal::OutsideRetention(-86_400_000)),
+            "! 15 OutsideRetention -86400000\n",
+        ),
+        (Reply::Refused(Refusal::LockHeld(0)), "! 17 LockHeld a\n"),
+        (Reply::Refused(Refusal::BadData(3, 0)), "! 20 BadData 3 0\n"),
         (Reply::Memory, "! memory\n"),
     ] {
         let mut out = Vec::new(alloc);
-        write_reply(&reply, &mut out)?;
+        write_reply(&program, &reply, &mut out)?;
         assert_eq!(rt; out.as_slice(), wanted.as_bytes());
     }
     Ok(())

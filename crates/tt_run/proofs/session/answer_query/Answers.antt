@@ -1,4 +1,4 @@
-use Rattle.std.proofs.Common.{◌≡◌, sym, subst}
+use Rattle.std.proofs.Common.{sym, subst}
 use Rattle.tt_history.specs.declared.reply.Reply.TheVariants as reply
 use Rattle.tt_run.specs.Turns.{Answers}
 use Rattle.tt_run.specs.TurnsLaws.{made_answers}

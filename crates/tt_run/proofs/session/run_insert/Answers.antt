@@ -1,4 +1,4 @@
-use Rattle.std.proofs.Common.{◌≡◌, ◌+◌, subst}
+use Rattle.std.proofs.Common.{subst}
 use Rattle.tt_run.specs.Turns.{Answers}
 use Rattle.tt_run.specs.TurnsLaws.{made_goes_on, made_answers, then_answers}
 use Rattle.tt_run.proofs.session.run_insert.Goals as goal

@@ -8,7 +8,7 @@ use Rattle.tt_run.proofs.transcript.write_entries.Goals as goal
 
 pub loop-entry-preserved : goal.loop-entry-preserved
 loop-entry-preserved c =
-    rw (c.in_ok-write_told_reply.ensures.ok, c.in_ok-write_journal_line.ensures.ok, c.take_reply.ensures.taken, c.take_reply.ensures.later) (answered_more c.args.program.now c.loop-entry.out.items c.args.entries.now c.loop-entry.entry-index _ c.loop-entry.left.now _ (omega arith) c.loop-entry.invariant)
+    rw (c.in_ok-write_told_reply.ensures.ok, c.in_ok-write_journal_line.ensures.ok, c.take_reply.ensures.taken, c.take_reply.ensures.later, c.entry-item.is) (answered_more c.args.program.now c.loop-entry.out.items c.args.entries.now c.loop-entry.entry-index _ c.loop-entry.left.now _ (omega arith) c.loop-entry.invariant)
 
 pub returns : goal.returns
 returns c =
