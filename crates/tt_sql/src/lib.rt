@@ -1,0 +1,30 @@
+//! SQL: its grammar, statements as trees, and what they mean.
+#![tactic(auto)]
+
+pub mod built;
+pub mod change;
+pub mod examples;
+pub mod grammar_laws;
+mod printing;
+pub mod printing_laws;
+pub mod query;
+pub mod statement;
+pub mod table;
+pub mod tree_laws;
+
+pub use change::{Copy, Delete, Dml, Insert, InsertSource, Set, Tuple, Update};
+pub use printing::print;
+pub use query::{
+    Clause, Item, Join, Key, KeyColumn, Moment, Offset, Pair, Query, Selection, Side, Source,
+};
+pub use statement::{Statement, Syntax, TimeUnit, Wait};
+pub use table::{
+    Alter, Change, ClonedTable, ColumnDefinition, CreatedTable, TableKind, TableOptions,
+};
+pub use tt_value::{
+    Addend, ColumnName, Comparison, Conjunction, Expr, Factor, Literal, Name, Number, Operand,
+    Predicate, Quoted, Sign, TableName, Term, Truth, Unit,
+};
+
+#[cfg(test)]
+mod tests;

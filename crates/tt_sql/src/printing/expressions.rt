@@ -1,0 +1,63 @@
+//! Expressions.
+#![tactic(auto, unfolding(crate::specs::Words::spaced))]
+
+ghost use Rattle.std.specs.Prelude.{◌≡◌, ◌++◌, OnOk};
+ghost use Rattle.tt_sql.specs.Words.{spaced};
+ghost use Rattle.tt_sql.specs.ExpressionWords.{expr_words, addend_words, term_words, factor_words};
+
+use crate::printing::words::{write_column_name, write_literal, write_word};
+use std::alloc::AllocError;
+use tt_value::{Addend, Expr, Factor, Sign, Term};
+
+#[cycle(expressions)]
+pub fn write_expr(expr: &Expr, out: &mut Vec<u8>) -> Result<(), AllocError>
+    ensures ok { OnOk result (out.new.items ≡ out.old.items ++ spaced (expr_words expr.now)) }
+{
+    write_term(&expr.first, out)?;
+    for addend in expr.others.as_slice() {
+        write_addend(addend, out)?;
+    }
+    Ok(())
+}
+
+#[cycle(expressions)]
+fn write_addend(addend: &Addend, out: &mut Vec<u8>) -> Result<(), AllocError>
+    ensures ok { OnOk result (out.new.items ≡ out.old.items ++ spaced (addend_words addend.now)) }
+{
+    match addend.sign {
+        Sign::Plus => write_word(b"+", out)?,
+        Sign::Minus => write_word(b"-", out)?,
+    }
+    write_term(&addend.term, out)
+}
+
+#[cycle(expressions)]
+fn write_term(term: &Term, out: &mut Vec<u8>) -> Result<(), AllocError>
+    ensures ok { OnOk result (out.new.items ≡ out.old.items ++ spaced (term_words term.now)) }
+{
+    write_factor(&term.first, out)?;
+    for factor in term.others.as_slice() {
+        write_word(b"*", out)?;
+        write_factor(factor, out)?;
+    }
+    Ok(())
+}
+
+#[cycle(expressions)]
+fn write_factor(factor: &Factor, out: &mut Vec<u8>) -> Result<(), AllocError>
+    ensures ok { OnOk result (out.new.items ≡ out.old.items ++ spaced (factor_words factor.now)) }
+{
+    match factor {
+        Factor::Literal(literal) => write_literal(literal, out),
+        Factor::Column(column) => write_column_name(column, out),
+        Factor::Bracket(_, expr) => {
+            write_word(b"(", out)?;
+            write_expr(expr.get(), out)?;
+            write_word(b")", out)
+        }
+        Factor::Negated(_, factor) => {
+            write_word(b"-", out)?;
+            write_factor(factor.get(), out)
+        }
+    }
+}

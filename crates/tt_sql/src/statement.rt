@@ -1,0 +1,52 @@
+//! Statements.
+
+use crate::change::Dml;
+use crate::query::Query;
+use crate::table::{Alter, ClonedTable, CreatedTable};
+use tt_value::{Number, TableName};
+
+#[derive(Drop)]
+pub enum Statement {
+    Query(Query),
+    Dml(Dml),
+    Create(CreatedTable),
+    Clone(ClonedTable),
+    Drop(TableName),
+    Undrop(TableName),
+    Truncate(TableName),
+    Alter(Alter),
+    Begin,
+    Commit,
+    Rollback,
+    Wait(Wait),
+    Explain(Query),
+    /// SHOW TABLES, with HISTORY or without.
+    Show(bool),
+    /// The view of the storage that each table has.
+    Metrics,
+    /// SYSTEM$CLUSTERING_DEPTH. The name has the place of the text that it stands in.
+    Depth(TableName),
+}
+
+/// SYSTEM$WAIT: the logical clock goes on by so much.
+#[derive(Drop)]
+pub struct Wait {
+    pub amount: Number,
+    pub unit: TimeUnit,
+}
+
+#[derive(Clone, Copy, Debug, PartialEq, Eq)]
+pub enum TimeUnit {
+    Days,
+    Hours,
+    Minutes,
+    Seconds,
+    Milliseconds,
+}
+
+/// A text that is no statement: the byte offset of the first token with which no statement goes on, or
+/// the text's length where it ends too early.
+#[derive(Clone, Copy, Debug, PartialEq, Eq)]
+pub struct Syntax {
+    pub place: u32,
+}

@@ -1,0 +1,61 @@
+//! A tree is determined by the marks of its derivation. These laws compute nothing.
+
+ghost use Rattle.std.specs.Prelude.{◌≡◌, ℕ};
+ghost use Rattle.tt_value.specs.declared.expression.Expr.{Expr};
+ghost use Rattle.tt_value.specs.declared.expression.Term.{Term};
+ghost use Rattle.tt_value.specs.declared.expression.Factor.{Factor};
+ghost use Rattle.tt_value.specs.declared.predicate.Predicate.{Predicate};
+ghost use Rattle.tt_value.specs.declared.predicate.Unit.{Unit};
+ghost use Rattle.tt_sql.specs.declared.query.Query.{Query};
+ghost use Rattle.std.specs.Prelude.{Some, Ok, Err, List, length};
+ghost use Rattle.tt_lex.specs.declared.Token.{Token};
+ghost use Rattle.tt_lex.specs.declared.LexFault.{LexFault};
+ghost use Rattle.tt_lex.specs.TokensOf.{tokens_of};
+ghost use Rattle.tt_sql.specs.GrammarLaws.{IsStatement, HasFaultAt};
+ghost use Rattle.tt_sql.specs.TokenKinds.{lexemes};
+ghost use Rattle.tt_sql.specs.StatementOf.{most_levels, fault_place, statement_of};
+ghost use Rattle.tt_sql.specs.declared.statement.Statement.{Statement};
+ghost use Rattle.tt_sql.specs.StatementGiven.{IsGivenStatement};
+ghost use Rattle.tt_sql.specs.StatementMarks.{statement_marks};
+ghost use Rattle.tt_sql.specs.StatementTrees.{statement_tree};
+ghost use Rattle.tt_sql.specs.QueryMarks.{query_marks};
+ghost use Rattle.tt_sql.specs.QueryGiven.{IsGivenQuery};
+ghost use Rattle.tt_sql.specs.Given.{IsGivenExpr, IsGivenTerm, IsGivenFactor, IsGivenPredicate, IsGivenUnit};
+ghost use Rattle.tt_sql.specs.Marks.{expr_marks, term_marks, factor_marks, predicate_marks, unit_marks};
+
+/// Two expressions that the grammar gives are the same if their derivations note the same marks. So are two
+/// terms, and two factors.
+pub fn expressions_are_determined()
+    ensures expression { (a b : Expr) → IsGivenExpr a → IsGivenExpr b → expr_marks a ≡ expr_marks b → a ≡ b }
+    ensures term { (a b : Term) → IsGivenTerm a → IsGivenTerm b → term_marks a ≡ term_marks b → a ≡ b }
+    ensures factor { (a b : Factor) → IsGivenFactor a → IsGivenFactor b → factor_marks a ≡ factor_marks b → a ≡ b }
+{}
+
+/// Two predicates that the grammar gives are the same if their derivations note the same marks. So are two units.
+pub fn predicates_are_determined()
+    ensures predicate { (a b : Predicate) → IsGivenPredicate a → IsGivenPredicate b → predicate_marks a ≡ predicate_marks b → a ≡ b }
+    ensures single { (a b : Unit) → IsGivenUnit a → IsGivenUnit b → unit_marks a ≡ unit_marks b → a ≡ b }
+{}
+
+/// Two queries that the grammar gives are the same if their derivations note the same marks.
+pub fn queries_are_determined()
+    ensures query { (a b : Query) → IsGivenQuery a → IsGivenQuery b → query_marks a ≡ query_marks b → a ≡ b }
+{}
+
+/// Two statements that the grammar gives are the same if their derivations note the same marks: each is read back
+/// from its marks.
+pub fn statements_are_determined()
+    ensures read { (s : Statement) → IsGivenStatement s → statement_tree (statement_marks s) ≡ Some s }
+    ensures statement { (a b : Statement) → IsGivenStatement a → IsGivenStatement b → statement_marks a ≡ statement_marks b → a ≡ b }
+{}
+
+/// The statement of a text is the one that its tokens spell, and else the place of the fault in its tokens.
+pub fn texts_have_one_statement()
+    ensures found { (text : List ℕ) (tokens : List Token) (s : Statement) → tokens_of text ≡ Ok tokens → IsGivenStatement s
+        → IsStatement most_levels (statement_marks s) (lexemes text tokens) → statement_of text ≡ Ok s }
+    ensures only { (text : List ℕ) (s : Statement) → statement_of text ≡ Ok s
+        → (tokens : List Token) × (tokens_of text ≡ Ok tokens) × IsStatement most_levels (statement_marks s) (lexemes text tokens) }
+    ensures fault { (text : List ℕ) (tokens : List Token) (at : ℕ) → tokens_of text ≡ Ok tokens
+        → HasFaultAt most_levels (length text) (lexemes text tokens) at → statement_of text ≡ Err at }
+    ensures no_tokens { (text : List ℕ) (fault : LexFault) → tokens_of text ≡ Err fault → statement_of text ≡ Err (fault_place fault) }
+{}
