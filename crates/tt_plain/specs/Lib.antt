@@ -1,0 +1,10 @@
+pub mod Columns
+pub mod Expressions
+pub mod Kinds
+pub mod NullsInNotNull
+pub mod Places
+pub mod Tables
+pub mod TypeMismatches
+pub mod TypingRefusal
+pub mod UnknownColumns
+pub mod WrongCounts

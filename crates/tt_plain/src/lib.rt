@@ -1,0 +1,2 @@
+//! The rules of the plain store, as definitions.
+#![tactic(auto)]

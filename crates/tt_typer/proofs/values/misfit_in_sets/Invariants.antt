@@ -1,0 +1,7 @@
+use Rattle.std.proofs.Common.{◌≡◌, drop}
+use Rattle.tt_plain.specs.Places.{earlier, leftmost, each}
+use Rattle.tt_plain.specs.TypeMismatches.{misfit_in_set}
+use Rattle.tt_typer.proofs.values.misfit_in_sets.Given as goal
+
+abbrev pub invariant-loop-set : goal.invariant-loop-set
+invariant-loop-set l = earlier l.found (leftmost (each (misfit_in_set l.scope.table.now l.scope.schema.now) (drop l.set-index l.sets))) ≡ leftmost (each (misfit_in_set l.scope.table.now l.scope.schema.now) l.sets)
