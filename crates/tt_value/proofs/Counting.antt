@@ -1,5 +1,5 @@
 -- A count that is at most the number of the distinct values: of each number that values have, one value is counted.
-use Rattle.std.proofs.Common.{◌≡◌, ℕ, ◌+◌, ◌-◌, ◌*◌, ◌^◌, ◌≤◌, ◌<◌, Bool, true, false, ◌||◌, List, [], ◌∷◌, length, get_or, set, take, refl, sym, ap, ◌∙◌, eq-eqb, arith, Ordering, ◌⊎◌, inl, inr}
+use Rattle.std.proofs.Common.{◌≡◌, ℕ, zero, suc, ◌+◌, ◌-◌, ◌*◌, ◌^◌, ◌≤◌, ◌<◌, Bool, true, false, ◌||◌, List, [], ◌∷◌, length, get_or, set, take, refl, sym, ap, ◌∙◌, eq-eqb, arith, Ordering, ◌⊎◌, inl, inr}
 use Rattle.std.specs.Prelude.{◌==◌}
 use Rattle.std.specs.declared.cmp.Ordering.TheVariants.{Less, Equal, Greater}
 use Rattle.std.specs.Cmp.{IsTotalOrder}
@@ -47,6 +47,20 @@ module _ {V : Type 0} (cmp : V → V → Ordering) (total : IsTotalOrder cmp) (t
 
   pub counted_before : (seen : List Bool) (vs : List V) (i count : ℕ) → AreCounted seen (take i vs) count → AreCounted seen (take (i + 1) vs) count
   counted_before seen vs i count c = (c.0, c.1, c.2, λ q h. list_any_kept (λ v. is_eq (cmp q v)) vs i (c.3 q h), c.4)
+
+  any_in_front : (p : V → Bool) (vs : List V) (i : ℕ) → list_any p (take i vs) ≡ true → list_any p vs ≡ true
+  any_in_front p [] zero h = absurd cc
+  any_in_front p [] (suc i) h = absurd cc
+  any_in_front p (v ∷ vs) zero h = absurd cc
+  any_in_front p (v ∷ vs) (suc i) h = go (any_in_front p vs i) (p v) h
+    where
+      go : (list_any p (take i vs) ≡ true → list_any p vs ≡ true) → (b : Bool) → (b || list_any p (take i vs)) ≡ true → (b || list_any p vs) ≡ true
+      go later true e = refl
+      go later false e = later e
+
+  -- what has been counted in front is counted of all
+  pub counted_in_front : (seen : List Bool) (vs : List V) (i count : ℕ) → AreCounted seen (take i vs) count → AreCounted seen vs count
+  counted_in_front seen vs i count c = (c.0, c.1, c.2, λ q h. any_in_front (λ v. is_eq (cmp q v)) vs i (c.3 q h), c.4)
 
   apart : (v : V) (seen : List Bool) (vs : List V) → get_or seen (number v) false ≡ false → Marked seen vs → AllByRecursion (λ y. eq_by_cmp cmp v y ≡ false) vs
   apart v seen [] new marked = tt

@@ -5,7 +5,8 @@ use Rattle.std.proofs.lemmas.Bool.Decides.{nat_tests}
 use Rattle.std.specs.Prelude.{◌==◌}
 use Rattle.std.specs.List.{AllByRecursion, list_all}
 use Rattle.std.proofs.lemmas.List.{drop_more, drop_all, append-nil}
-use Rattle.std.proofs.Math.Nat.{div-div-eq-div-mul, mod-add-div, add-mul-div_left, add-mul-mod_self_left, pow-le-pow_right, mul-le-mul_left, div-eq_of_lt, mod-eq_of_lt}
+use Rattle.std.proofs.Math.Nat.{add-mod-mod, div-div-eq-div-mul, mod-add-div, add-mul-div_left, add-mul-mod_self_left, pow-le-pow_right, mul-le-mul_left, div-eq_of_lt, mod-eq_of_lt}
+use Rattle.std.proofs.Math.Pow.{mod-mod-pow}
 use Rattle.std.proofs.lemmas.Nat.{pow_pos, pow-add, leading_length, shr-shr, shr_below, mod_below}
 use Rattle.tt_value.specs.Packing.{joined, digits, bytes_for, packed, width_of}
 
@@ -166,6 +167,10 @@ row_ended_more w bits p i numbers out new total le few lt so_far more new_is =
 pub byte_in : (bits p b rest : ℕ) → p + b * 2 ^ bits + 2 ^ (bits + 8) * rest ≡ p + 2 ^ bits * (b + 256 * rest)
 byte_in bits p b rest = joins bits 8 p b rest
 
+-- eight bytes more wait
+pub word_in : (bits p word rest all : ℕ) → all ≡ word + 2 ^ 64 * rest → p + word * 2 ^ bits + 2 ^ (bits + 64) * rest ≡ p + 2 ^ bits * all
+word_in bits p word rest all all_is = joins bits 64 p word rest ∙ ap (λ x. p + 2 ^ bits * x) (sym all_is)
+
 same_tests : (b n : ℕ) → ((b == 0) && (n == 0)) ≡ ((b + 256 * n) == 0)
 same_tests b n = grind (arith, nat_tests)
 
@@ -190,18 +195,71 @@ digit_left w bits p more le = rw (regrouped w bits p more le) (add-mul-div_left 
 pub left_below : (w bits p : ℕ) → w ≤ bits → p < 2 ^ bits → p / 2 ^ w < 2 ^ (bits - w)
 left_below w bits p le lt = shr_below p (bits - w) w (let e : bits - w + w ≡ bits = omega arith in rw e lt)
 
--- a turn of the loop: r is what was left before it
-pub unpack_turn : (w bits p more i count n r : ℕ) (old new total : List ℕ) → w ≤ bits → i < count → p + 2 ^ bits * more ≡ r → new ≡ old ++ (p % 2 ^ w) ∷ []
-    → old ++ digits w (count - i) r ≡ total → new ++ digits w (count - (i + 1)) (p / 2 ^ w + 2 ^ (bits - w) * more) ≡ total
-unpack_turn w bits p more i count n r old new total le lt r_is new_is so_far =
-    let k : count - i ≡ suc (count - (i + 1)) = omega arith in
-    let one : digits w (count - i) r ≡ p % 2 ^ w ∷ digits w (count - (i + 1)) (p / 2 ^ w + 2 ^ (bits - w) * more) = rw (k, ← r_is, digit_out w bits p more le, digit_left w bits p more le) refl in
-    row_more old new (p % 2 ^ w) (digits w (count - (i + 1)) (p / 2 ^ w + 2 ^ (bits - w) * more)) (digits w (count - i) r) total new_is one so_far
+-- the byte at a place of fewer than eight
+pub byte_within : (bits i len p b : ℕ) → bits ≡ 8 * i → i < len → len < 8 → p < 2 ^ bits → b < 2 ^ 8 → p + b * 2 ^ bits < 2 ^ 64
+byte_within bits i len p b is lt few p_lt b_lt =
+    let h : p + b * 2 ^ bits < 2 ^ (bits + 8) = joins_below bits 8 p b p_lt b_lt in
+    let g : 2 ^ (bits + 8) ≤ 2 ^ 64 = pow-le-pow_right {n = 2} (omega arith) {i = bits + 8} {j = 64} (omega arith) in
+    omega arith
 
-pub unpack_left : (w bits p more i n r : ℕ) → w ≤ bits → p + 2 ^ bits * more ≡ r → r ≡ n / 2 ^ (i * w) → p / 2 ^ w + 2 ^ (bits - w) * more ≡ n / 2 ^ ((i + 1) * w)
-unpack_left w bits p more i n r le r_is left =
+pub byte_taken : (bits i p : ℕ) (bytes : List ℕ) (total : ℕ) → i < length bytes → p + 2 ^ bits * joined 8 (drop i bytes) ≡ total → p + get_or bytes i 0 * 2 ^ bits + 2 ^ (bits + 8) * joined 8 (drop (i + 1) bytes) ≡ total
+byte_taken bits i p bytes total lt so_far =
+    byte_in bits p (get_or bytes i 0) (joined 8 (drop (i + 1) bytes)) ∙ ap (λ (t : List ℕ). p + 2 ^ bits * joined 8 t) (sym (drop_more bytes i 0 lt)) ∙ so_far
+
+-- a word behind the bits that wait: the number in front of both, and what is left
+pub word_value : (w bits p word more all : ℕ) → w ≤ 64 → all ≡ word + 2 ^ 64 * more → (p + word * 2 ^ bits % 2 ^ 64) % 2 ^ 64 % 2 ^ w ≡ (p + 2 ^ bits * all) % 2 ^ w
+word_value w bits p word more all le all_is =
+    let q : ℕ = p + word * 2 ^ bits in
+    let k : 64 - w + w ≡ 64 = omega arith in
+    let a : (p + word * 2 ^ bits % 2 ^ 64) % 2 ^ 64 ≡ q % 2 ^ 64 = add-mod-mod p (word * 2 ^ bits) (2 ^ 64) in
+    let b : q % 2 ^ (64 - w + w) % 2 ^ w ≡ q % 2 ^ w = mod-mod-pow q (64 - w) w in
+    let c : q % 2 ^ 64 % 2 ^ w ≡ q % 2 ^ w = ap (λ n. q % 2 ^ n % 2 ^ w) (sym k) ∙ b in
+    let d : (q + 2 ^ (bits + 64) * more) % 2 ^ w ≡ q % 2 ^ w = digit_out w (bits + 64) q more (omega arith) in
+    ap (λ n. n % 2 ^ w) a ∙ c ∙ sym d ∙ ap (λ n. n % 2 ^ w) (word_in bits p word more all all_is)
+
+word_over : (w bits p word : ℕ) → bits ≤ w → p < 2 ^ bits → (p + word * 2 ^ bits) / 2 ^ w ≡ word / 2 ^ (w - bits)
+word_over w bits p word le lt =
+    let e : 2 ^ w ≡ 2 ^ bits * 2 ^ (w - bits) = power_split bits w le in
+    let a : (p + 2 ^ bits * word) / 2 ^ bits ≡ word = other_digits bits p word lt in
+    let b : (p + 2 ^ bits * word) / 2 ^ bits / 2 ^ (w - bits) ≡ (p + 2 ^ bits * word) / (2 ^ bits * 2 ^ (w - bits)) = div-div-eq-div-mul (p + 2 ^ bits * word) (2 ^ bits) (2 ^ (w - bits)) in
+    let s : p + word * 2 ^ bits ≡ p + 2 ^ bits * word = omega arith in
+    ap (λ n. n / 2 ^ w) s ∙ ap (λ n. (p + 2 ^ bits * word) / n) e ∙ sym b ∙ ap (λ n. n / 2 ^ (w - bits)) a
+
+two_shifts : (word missing : ℕ) → 0 < missing → word / 2 ^ (missing - 1) / 2 ≡ word / 2 ^ missing
+two_shifts word missing lt = let e : missing - 1 + 1 ≡ missing = omega arith in shr-shr word (missing - 1) 1 ∙ ap (λ n. word / 2 ^ n) e
+
+pub word_left_below : (w bits p word : ℕ) → bits < w → word < 2 ^ 64 → p < 2 ^ bits → word / 2 ^ (w - bits - 1) / 2 < 2 ^ (64 - (w - bits))
+word_left_below w bits p word lt word_lt p_lt =
+    let e = two_shifts word (w - bits) (omega arith) in
+    elim (cases_lt 64 (w - bits)) [
+      | inl wide ↦
+          let z : 64 - (w - bits) ≡ 0 = omega arith in
+          let g : 2 ^ 64 ≤ 2 ^ (w - bits) = pow-le-pow_right {n = 2} (omega arith) {i = 64} {j = w - bits} (omega arith) in
+          let d : word / 2 ^ (w - bits) ≡ 0 = div-eq_of_lt (omega arith) in
+          rw (e, d, z) (omega arith)
+      | inr narrow ↦ rw e (shr_below word (64 - (w - bits)) (w - bits) (let k : 64 - (w - bits) + (w - bits) ≡ 64 = omega arith in rw k word_lt))
+    ]
+
+pub word_left : (w bits p word more all : ℕ) → bits < w → w ≤ 64 → p < 2 ^ bits → all ≡ word + 2 ^ 64 * more → word / 2 ^ (w - bits - 1) / 2 + 2 ^ (64 - (w - bits)) * more ≡ (p + 2 ^ bits * all) / 2 ^ w
+word_left w bits p word more all lt le p_lt all_is =
+    let a = two_shifts word (w - bits) (omega arith) in
+    let b = word_over w bits p word (omega arith) p_lt in
+    let k : bits + 64 - w ≡ 64 - (w - bits) = omega arith in
+    let d = digit_left w (bits + 64) (p + word * 2 ^ bits) more (omega arith) in
+    ap (λ n. n + 2 ^ (64 - (w - bits)) * more) (a ∙ sym b) ∙ ap (λ n. (p + word * 2 ^ bits) / 2 ^ w + 2 ^ n * more) (sym k) ∙ sym d ∙ ap (λ n. n / 2 ^ w) (word_in bits p word more all all_is)
+
+-- a turn of the loop: r is what was left before it, and s what is left after it
+pub unpack_turn : (w i count r s x : ℕ) (old new total : List ℕ) → i < count → x ≡ r % 2 ^ w → s ≡ r / 2 ^ w → new ≡ old ++ x ∷ []
+    → old ++ digits w (count - i) r ≡ total → new ++ digits w (count - (i + 1)) s ≡ total
+unpack_turn w i count r s x old new total lt x_is s_is new_is so_far =
+    let k : count - i ≡ suc (count - (i + 1)) = omega arith in
+    let one : digits w (count - i) r ≡ x ∷ digits w (count - (i + 1)) s = rw (k, x_is, s_is) refl in
+    row_more old new x (digits w (count - (i + 1)) s) (digits w (count - i) r) total new_is one so_far
+
+pub unpack_left : (w i n r s : ℕ) → s ≡ r / 2 ^ w → r ≡ n / 2 ^ (i * w) → s ≡ n / 2 ^ ((i + 1) * w)
+unpack_left w i n r s s_is left =
     let k : (i + 1) * w ≡ i * w + w = omega arith in
-    sym (digit_left w bits p more le) ∙ ap (λ x. x / 2 ^ w) (r_is ∙ left) ∙ shr-shr n (i * w) w ∙ ap (λ x. n / 2 ^ x) (sym k)
+    s_is ∙ ap (λ x. x / 2 ^ w) left ∙ shr-shr n (i * w) w ∙ ap (λ x. n / 2 ^ x) (sym k)
 
 -- what is left tells whether the number has more digits
 pub nothing_left : (n k : ℕ) → n / 2 ^ k ≡ 0 → n < 2 ^ k

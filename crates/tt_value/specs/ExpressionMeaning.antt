@@ -1,8 +1,8 @@
 -- The value of an expression on a row. It has none where a number leaves 64 bits, also on the way.
-use Rattle.std.specs.Prelude.{ℕ, ℤ, pos, neg_ℤ, ◌+ℤ◌, ◌-ℤ◌, ◌*ℤ◌, ◌^◌, ◌&&◌, if◌then◌else◌, List, fold, Option, Some, None, option_and_then}
+use Rattle.std.specs.Prelude.{ℤ, pos, neg_ℤ, ◌+ℤ◌, ◌-ℤ◌, ◌*ℤ◌, ◌^◌, ◌&&◌, if◌then◌else◌, fold, Option, Some, None, option_and_then}
 use Rattle.std.specs.Int.RustNames.{int_le, int_lt}
 use Rattle.tt_value.specs.declared.value.Value.{Value}
-use Rattle.tt_value.specs.declared.value.Value.TheVariants.{Null, Int, Date, Text}
+use Rattle.tt_value.specs.declared.value.Value.TheVariants.{Null, Int}
 use Rattle.tt_value.specs.declared.value.Row.{Row}
 use Rattle.tt_value.specs.declared.expression.Sign.{Sign}
 use Rattle.tt_value.specs.declared.expression.Sign.TheVariants.{Plus, Minus}

@@ -4,15 +4,12 @@ use Rattle.std.specs.List.{starts_with}
 use Rattle.std.specs.Ordering.{is_eq, is_lt, is_le, is_gt, is_ge}
 use Rattle.std.specs.declared.cmp.Ordering.{Ordering}
 use Rattle.tt_value.specs.declared.value.Kind.{Kind}
-use Rattle.tt_value.specs.declared.value.Kind.TheVariants as kinds
 use Rattle.tt_value.specs.declared.value.Value.{Value}
-use Rattle.tt_value.specs.declared.value.Value.TheVariants.{Null, Int, Date, Text}
+use Rattle.tt_value.specs.declared.value.Value.TheVariants.{Null, Text}
 use Rattle.tt_value.specs.declared.value.Row.{Row}
-use Rattle.tt_value.specs.declared.name.ColumnName.{ColumnName}
 use Rattle.tt_value.specs.declared.name.Literal.{Literal}
-use Rattle.tt_value.specs.declared.name.Quoted.{Quoted}
 use Rattle.tt_value.specs.declared.predicate.Truth.{Truth}
-use Rattle.tt_value.specs.declared.predicate.Truth.TheVariants.{True, False, Unknown}
+use Rattle.tt_value.specs.declared.predicate.Truth.TheVariants.{False, Unknown}
 use Rattle.tt_value.specs.declared.predicate.Operand.{Operand}
 use Rattle.tt_value.specs.declared.predicate.Operand.TheVariants as operand
 use Rattle.tt_value.specs.declared.predicate.Comparison.{Comparison}

@@ -1,5 +1,5 @@
 -- The moment that a text means is that of the timestamp whose text it is.
-use Rattle.std.proofs.Common.{◌≡◌, ℕ, zero, suc, ◌+◌, ◌-◌, ◌*◌, ◌/◌, ◌%◌, ◌<◌, ◌≤◌, List, [], ◌∷◌, ◌++◌, length, map, take, drop, All, Option, Some, None, refl, sym, ap, subst, ◌∙◌, arith, inl, inr, ◌⊎◌, ℤ, pos, ◌+ℤ◌, ◌*ℤ◌, Bool, true, false, append_assoc}
+use Rattle.std.proofs.Common.{◌≡◌, ℕ, ◌+◌, ◌-◌, ◌/◌, ◌%◌, ◌<◌, ◌≤◌, List, [], ◌∷◌, ◌++◌, length, map, take, drop, Option, Some, None, refl, sym, ap, subst, ◌∙◌, arith, inl, inr, ◌⊎◌, ℤ, Bool, true, false}
 use Rattle.std.specs.Prelude.{if◌then◌else◌, ◌&&◌, ◌||◌, ◌==◌, slice_index, option_and_then, nat_le, nat_lt}
 use Rattle.std.specs.List.{list_all}
 use Rattle.std.specs.Char.{is_ascii_digit}
@@ -9,7 +9,7 @@ use Rattle.std.proofs.lemmas.Bool.Decides.{nat_tests}
 use Rattle.std.proofs.lemmas.Option.{none-some, same_Some}
 use Rattle.std.proofs.lemmas.List.Elements.{recursion_from_All, All-from_recursion}
 use Rattle.std.specs.List.{AllByRecursion as ByRecursion}
-use Rattle.tt_value.specs.Calendar.{IsDay, day_text, two_digits, Clock, IsClock, clock_text, seconds_of, fraction_text, IsFraction, milliseconds, Timestamp, IsTimestamp, timestamp_text, moment_of}
+use Rattle.tt_value.specs.Calendar.{day_text, two_digits, Clock, IsClock, clock_text, fraction_text, Timestamp, IsTimestamp, timestamp_text, moment_of}
 use Rattle.tt_value.specs.CalendarReading.{day_of, digits_value, has_clock_form, written_clock, is_clock, clock_of, digits_behind, fraction_of, has_zone, without_zone, stands_between, moment_from, timestamp_of}
 use Rattle.tt_value.specs.CalendarReadingLaws.{digit_written, digit_range, two_value, two_read, if_both, both_if, day_of-written, day_of-read}
 

@@ -1,5 +1,5 @@
 -- The three truth values.
-use Rattle.std.specs.Prelude.{Bool, true, false, List, fold}
+use Rattle.std.specs.Prelude.{Bool, true, false}
 use Rattle.tt_value.specs.declared.predicate.Truth.{Truth}
 use Rattle.tt_value.specs.declared.predicate.Truth.TheVariants.{True, False, Unknown}
 

@@ -1,6 +1,6 @@
 //! Numbers of a few bits each, packed into bytes.
 
-ghost use Rattle.std.specs.Prelude.{◌≡◌, ℕ, ◌+◌, ◌-◌, ◌*◌, ◌/◌, ◌^◌, ◌<◌, ◌≤◌, ◌++◌, ◌==◌, All, IfOk, OnOk, MatchOption, length};
+ghost use Rattle.std.specs.Prelude.{◌≡◌, ℕ, ◌+◌, ◌-◌, ◌*◌, ◌/◌, ◌%◌, ◌^◌, ◌<◌, ◌≤◌, ◌++◌, ◌==◌, All, IfOk, OnOk, MatchOption, length};
 ghost use Rattle.std.specs.List.{list_all};
 ghost use Rattle.tt_value.specs.Packing.{joined, digits, bytes_for, packed, width_of};
 
@@ -55,16 +55,6 @@ pub fn pack(out: Vec<u8>, width: u32, numbers: &[u64]) -> Result<Vec<u8>, AllocE
     Ok(out)
 }
 
-/// The byte at the front and those behind it; behind the end stand bits 0.
-fn next_byte(bytes: &[u8]) -> (u8, &[u8])
-    ensures { joined 8 bytes.now ≡ result.0 + 256 * joined 8 result.1.now }
-{
-    match bytes.split_first() {
-        Some((first, others)) => (*first, others),
-        None => (0, bytes),
-    }
-}
-
 /// Whether no bit is set.
 fn is_zero(bytes: &[u8]) -> bool
     ensures { result ≡ list_all (λ byte. byte == 0) bytes.now }
@@ -72,26 +62,66 @@ fn is_zero(bytes: &[u8]) -> bool
     bytes.iter().all(|byte| *byte == 0)
 }
 
-/// Takes bytes from the front until that many bits wait; behind the end stand bits 0.
-fn take_bits<'a>(bytes: &'a [u8], pending: u128, bits: u32, width: u32) -> (&'a [u8], u128, u32)
-    requires few { bits < 8 }
+/// Fewer than eight bytes as one number.
+fn short_word(bytes: &[u8]) -> u64
+    requires { length bytes.now < 8 }
+    ensures { result ≡ joined 8 bytes.now }
+{
+    let mut word = 0u64;
+    let mut bits = 0u32;
+    for byte in bytes {
+        word += u64::from(*byte) << bits;
+        bits += 8;
+    }
+    word
+}
+
+/// The eight bytes at the front as one number, and those behind them; behind the end stand bits 0.
+fn next_word(bytes: &[u8]) -> (u64, &[u8])
+    ensures { joined 8 bytes.now ≡ result.0 + 2 ^ 64 * joined 8 result.1.now }
+{
+    if bytes.len() < 8 {
+        return (short_word(bytes), &[]);
+    }
+    let (front, rest) = bytes.split_at(8);
+    let word = u64::from_le_bytes([
+        front[0], front[1], front[2], front[3], front[4], front[5], front[6], front[7],
+    ]);
+    (word, rest)
+}
+
+/// The lowest bits of a number, so many.
+fn low_bits(number: u64, width: u32) -> u64
+    requires { width ≤ 64 }
+    ensures { result ≡ number % 2 ^ width }
+{
+    (u128::from(number) % (1u128 << width)) as u64
+}
+
+/// The number at the front of the bits that wait and the bytes behind them, and what is left of both.
+fn take_number<'a>(
+    bytes: &'a [u8],
+    pending: u64,
+    bits: u32,
+    width: u32,
+) -> (u64, &'a [u8], u64, u32)
+    requires few { bits < 64 }
     requires narrow { width ≤ 64 }
     requires fits { pending < 2 ^ bits }
-    ensures enough { width ≤ result.2 }
-    ensures few { result.2 < width + 8 }
-    ensures fits { result.1 < 2 ^ result.2 }
-    ensures same { result.1 + 2 ^ result.2 * joined 8 result.0.now ≡ pending + 2 ^ bits * joined 8 bytes.now }
+    ensures value { result.0 ≡ (pending + 2 ^ bits * joined 8 bytes.now) % 2 ^ width }
+    ensures few { result.3 < 64 }
+    ensures fits { result.2 < 2 ^ result.3 }
+    ensures left { result.2 + 2 ^ result.3 * joined 8 result.1.now ≡ (pending + 2 ^ bits * joined 8 bytes.now) / 2 ^ width }
 {
-    let mut rest = bytes;
-    let mut waiting = pending;
-    let mut left = bits;
-    while left < width {
-        let (byte, others) = next_byte(rest);
-        waiting += (byte as u128) << left;
-        rest = others;
-        left += 8;
+    if width <= bits {
+        let number = low_bits(pending, width);
+        return (number, bytes, pending >> width, bits - width);
     }
-    (rest, waiting, left)
+    let (word, rest) = next_word(bytes);
+    let missing = width - bits;
+    let number = low_bits(pending.wrapping_add(word << bits), width);
+    let left = (word >> (missing - 1)) >> 1;
+    (number, rest, left, 64 - missing)
 }
 
 /// Numbers of that width, as many as asked for, from the front of the bytes; none where a bit behind them is set.
@@ -108,14 +138,14 @@ pub fn unpack(
 {
     let mut numbers = Vec::with_capacity(alloc, count)?;
     let mut rest = bytes;
-    let mut pending: u128 = 0;
-    let mut bits: u32 = 0;
+    let mut pending = 0u64;
+    let mut bits = 0u32;
     for _turn in 0..count {
-        let (after, waiting, left) = take_bits(rest, pending, bits, width);
-        numbers.push((waiting % (1 << width)) as u64)?;
+        let (number, after, waiting, left) = take_number(rest, pending, bits, width);
+        numbers.push(number)?;
         rest = after;
-        pending = waiting >> width;
-        bits = left - width;
+        pending = waiting;
+        bits = left;
     }
     if pending != 0 {
         return Ok(None);

@@ -78,6 +78,15 @@ impl Text {
         })
     }
 
+    /// Makes a text of a copy of a text that is known to be one.
+    pub fn from_valid(alloc: Global, text: &str) -> Result<Text, AllocError>
+        requires { IsText text.now }
+        ensures { IfOk result (λ t. t ≡ text.now) }
+    {
+        let copy = String::from_str(alloc, text)?;
+        Ok(Text { text: copy })
+    }
+
     /// Makes a text of a copy of these printable ASCII bytes, of which there are few enough.
     pub fn from_ascii(alloc: Global, bytes: &[u8]) -> Result<Text, AllocError>
         requires plain { All IsPrintableAscii bytes.now }
