@@ -31,7 +31,7 @@ length-run_bytes kind run = length-append (value_bytes kind run.0) (word run.1) 
 length-plain : (kind : Kind) (vs : List ℤ) → length (body kind vs Plain) ≡ length vs * value_size kind
 length-plain kind vs = length-all (value_bytes kind) (value_size kind) (length-value kind) vs
 
-length-frame : (kind : Kind) (vs : List ℤ) → length (body kind vs Frame) ≡ value_size kind + 1 + bytes_for (length vs * width_of (greatest_of (map (height (least_of vs)) vs)))
+pub length-frame : (kind : Kind) (vs : List ℤ) → length (body kind vs Frame) ≡ value_size kind + 1 + bytes_for (length vs * width_of (greatest_of (map (height (least_of vs)) vs)))
 length-frame kind vs =
     let ds : List ℕ = map (height (least_of vs)) vs in
     let w : ℕ = width_of (greatest_of ds) in

@@ -1,2 +1,3 @@
 pub mod IntBody
 pub mod IntReading
+pub mod IntNumber

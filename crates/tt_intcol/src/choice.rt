@@ -5,6 +5,7 @@ ghost use Rattle.std.specs.Ordering.{int_cmp};
 ghost use Rattle.std.specs.Int.{int_min, w64, cast_unsigned};
 ghost use Rattle.tt_value.specs.ColumnBody.{runs_of, distinct, index_in};
 ghost use Rattle.tt_value.specs.Packing.{bytes_for, width_of};
+ghost use Rattle.tt_intcol.specs.IntNumber.{number_in};
 ghost use Rattle.tt_intcol.specs.IntBody.{value_size as size_of, value_bytes, body, code, encoding_of, least_of, height, greatest_of};
 
 use crate::encoding::Encoding;
@@ -100,12 +101,19 @@ fn plain_length(size: u128, values: &[i64]) -> u128
     values.len() as u128 * size
 }
 
-fn frame_length(size: u128, values: &[i64]) -> u128
-    requires { size ≤ 8 }
-    ensures { result ≡ size + 1 + bytes_for (length values.now * width_of (greatest_of (map (height (least_of values.now)) values.now))) }
+/// How many bytes the differences to the least value take.
+fn heights_length(values: &[i64]) -> u128
+    ensures value { result ≡ bytes_for (length values.now * width_of (greatest_of (map (height (least_of values.now)) values.now))) }
+    ensures few { result ≤ 64 * 2 ^ 64 }
 {
     let width = packing::width_of(greatest_height(least(values), values));
-    size + 1 + packed_size(values.len(), width)
+    packed_size(values.len(), width)
+}
+
+fn frame_length(kind: Kind, values: &[i64]) -> u128
+    ensures { result ≡ length (body kind values.now Encoding.Frame) }
+{
+    value_size(kind) as u128 + 1 + heights_length(values)
 }
 
 fn run_length(size: u128, values: &[i64]) -> u128
@@ -118,27 +126,13 @@ fn run_length(size: u128, values: &[i64]) -> u128
 /// The number of a value, below `size`.
 fn number_of(value: i64, size: usize) -> usize
     requires { 0 < size }
-    ensures value { result ≡ cast_unsigned w64 value % size }
+    ensures value { result ≡ number_in size value }
     ensures below { result < size }
 {
-    (value.cast_unsigned() % size as u64) as usize
-}
-
-/// How many numbers the values have: at most as many as there are distinct values.
-fn number_count(alloc: Global, values: &[i64]) -> Result<usize, AllocError>
-    ensures { IfOk result (λ count. count ≤ length (distinct int_cmp values.now)) }
-{
-    let size = values.len().saturating_mul(4).saturating_add(1);
-    let mut seen = vec![in alloc; false; size]?;
-    let mut count = 0usize;
-    for value in values {
-        let number = number_of(*value, size);
-        if !seen[number] {
-            seen[number] = true;
-            count += 1;
-        }
-    }
-    Ok(count)
+    let mixed = value
+        .cast_unsigned()
+        .wrapping_mul(11_400_714_819_323_198_485);
+    ((u128::from(mixed) * size as u128) >> 64) as usize
 }
 
 /// The length of a dictionary body of so many values with so many distinct ones.
@@ -148,6 +142,29 @@ fn dictionary_length(size: u128, values: usize, distinct: usize) -> u128
 {
     let width = packing::width_of((distinct as u64).saturating_sub(1));
     4 + distinct as u128 * size + packed_size(values, width)
+}
+
+/// How many numbers the values have: at most as many as there are distinct values. Counting ends where a
+/// dictionary of so many is not shorter than `most` bytes.
+fn number_count(alloc: Global, size: u128, most: u128, values: &[i64]) -> Result<usize, AllocError>
+    requires { size ≤ 8 }
+    ensures { IfOk result (λ count. count ≤ length (distinct int_cmp values.now)) }
+{
+    let places = values.len().saturating_mul(4).saturating_add(1);
+    let mut seen = vec![in alloc; false; places]?;
+    let mut count = 0usize;
+    for value in values {
+        let number = number_of(*value, places);
+        if seen[number] {
+            continue;
+        }
+        seen[number] = true;
+        count += 1;
+        if count % 16 == 0 && dictionary_length(size, values.len(), count) >= most {
+            return Ok(count);
+        }
+    }
+    Ok(count)
 }
 
 /// Whether the dictionary body is shorter than so many bytes. The values are sorted and counted only where
@@ -161,7 +178,7 @@ fn dictionary_is_shorter(
     ensures { IfOk result (λ shorter. shorter ≡ nat_lt (length (body kind values.now Encoding.Dictionary)) bytes) }
 {
     let size = value_size(kind) as u128;
-    let few = number_count(alloc, values)?;
+    let few = number_count(alloc, size, bytes, values)?;
     if dictionary_length(size, values.len(), few) >= bytes {
         return Ok(false);
     }
@@ -169,8 +186,10 @@ fn dictionary_is_shorter(
     Ok(dictionary_length(size, values.len(), count) < bytes)
 }
 
-/// The shortest form but for the dictionary, of equal ones that of the least code.
-fn without_dictionary(kind: Kind, values: &[i64]) -> Length
+/// The shortest form but for the dictionary, of equal ones that of the least code. `frame` is how long the
+/// frame is.
+fn without_dictionary(kind: Kind, values: &[i64], frame: u128) -> Length
+    requires { frame ≡ length (body kind values.now Encoding.Frame) }
     ensures shortest { (if nat_lt (length (body kind values.now Encoding.Dictionary)) result.bytes then Encoding.Dictionary else result.encoding) ≡ encoding_of kind values.now }
     ensures other { result.encoding ≢ Encoding.Dictionary }
 {
@@ -184,7 +203,7 @@ fn without_dictionary(kind: Kind, values: &[i64]) -> Length
             best,
             Length {
                 encoding: Encoding::Frame,
-                bytes: frame_length(size, values),
+                bytes: frame,
             },
         );
     }
@@ -197,18 +216,33 @@ fn without_dictionary(kind: Kind, values: &[i64]) -> Length
     )
 }
 
-/// The encoding with the shortest body, of equal ones that of the least code.
-pub fn encoding_of(alloc: Global, kind: Kind, values: &[i64]) -> Result<Encoding, AllocError>
+/// The encoding with the shortest body, of equal ones that of the least code. `frame` is how long the frame
+/// is.
+fn encoding_beside(
+    alloc: Global,
+    kind: Kind,
+    values: &[i64],
+    frame: u128,
+) -> Result<Encoding, AllocError>
+    requires { frame ≡ length (body kind values.now Encoding.Frame) }
     ensures { IfOk result (λ e. e ≡ encoding_of kind values.now) }
 {
-    let best = without_dictionary(kind, values);
+    let best = without_dictionary(kind, values, frame);
     if dictionary_is_shorter(alloc, kind, best.bytes, values)? {
         return Ok(Encoding::Dictionary);
     }
     Ok(best.encoding)
 }
 
-/// Whether a form is the one to take, where its body has so many bytes. A dictionary need not be counted.
+/// The encoding with the shortest body, of equal ones that of the least code.
+pub fn encoding_of(alloc: Global, kind: Kind, values: &[i64]) -> Result<Encoding, AllocError>
+    ensures { IfOk result (λ e. e ≡ encoding_of kind values.now) }
+{
+    encoding_beside(alloc, kind, values, frame_length(kind, values))
+}
+
+/// Whether a form is the one to take, where its body has so many bytes. A dictionary need not be counted,
+/// nor a frame measured.
 pub fn is_shortest(
     alloc: Global,
     kind: Kind,
@@ -219,9 +253,13 @@ pub fn is_shortest(
     requires { bytes ≡ length (body kind values.now encoding) }
     ensures { IfOk result (λ shortest. shortest ≡ (code (encoding_of kind values.now) == code encoding)) }
 {
+    let frame = match encoding {
+        Encoding::Frame => bytes as u128,
+        _ => frame_length(kind, values),
+    };
     if encoding == Encoding::Dictionary {
-        return Ok((bytes as u128) < without_dictionary(kind, values).bytes);
+        return Ok((bytes as u128) < without_dictionary(kind, values, frame).bytes);
     }
-    let shortest = encoding_of(alloc, kind, values)?;
+    let shortest = encoding_beside(alloc, kind, values, frame)?;
     Ok(shortest.code() == encoding.code())
 }

@@ -60,7 +60,7 @@ fn raised(
         (list_all (is_within kind low) numbers.now ≡ false)
         (λ v. (list_all (is_within kind low) numbers.now ≡ true) × (v.items ≡ map (λ n. low +ℤ pos n) numbers.now))) }
 {
-    let mut values = Vec::new(alloc);
+    let mut values = Vec::with_capacity(alloc, numbers.len())?;
     for number in numbers {
         match raise(kind, low, *number) {
             None => return Ok(None),

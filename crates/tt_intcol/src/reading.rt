@@ -55,7 +55,7 @@ pub fn read_values(
 ) -> Result<(Vec<i64>, &[u8]), DecodeError>
     ensures { Gives (λ x. (x.0.items, x.1.now)) result (values_at (value_at kind) int_cmp end count bytes.now) }
 {
-    let mut values = Vec::new(alloc);
+    let mut values = Vec::with_capacity(alloc, count.min(bytes.len()))?;
     let mut rest = bytes;
     for _turn in 0..count {
         let (value, after) = read_value(kind, end, rest)?;
@@ -116,7 +116,7 @@ fn read_runs(
 ) -> Result<(Vec<i64>, &[u8]), DecodeError>
     ensures { Gives (λ x. (x.0.items, x.1.now)) result (runs_at (value_at kind) int_cmp end count most None bytes.now) }
 {
-    let mut values = Vec::new(alloc);
+    let mut values = Vec::with_capacity(alloc, most)?;
     let mut rest = bytes;
     let mut left = most;
     let mut before = None;
@@ -181,7 +181,7 @@ pub fn read_entries(
 ) -> Result<(Vec<i64>, &[u8]), DecodeError>
     ensures { Gives (λ x. (x.0.items, x.1.now)) result (entries_at (value_at kind) int_cmp end count None bytes.now) }
 {
-    let mut values = Vec::new(alloc);
+    let mut values = Vec::with_capacity(alloc, (count as usize).min(bytes.len()))?;
     let mut rest = bytes;
     let mut before = None;
     for _turn in 0..count {
@@ -221,7 +221,7 @@ fn values_at_indexes(
 ) -> Result<Option<Vec<i64>>, AllocError>
     ensures { IfOk result (λ found. option_map (λ v. v.items) found ≡ values_of entries.now indexes.now) }
 {
-    let mut values = Vec::new(alloc);
+    let mut values = Vec::with_capacity(alloc, indexes.len())?;
     for index in indexes {
         match entries.get(*index as usize) {
             None => return Ok(None),

@@ -82,7 +82,7 @@ fn next_row(flag: u64, values: &[i64]) -> (Option<i64>, &[i64])
 fn spread(alloc: Global, flags: &[u64], values: &[i64]) -> Result<Vec<Option<i64>>, AllocError>
     ensures { IfOk result (λ rows. rows.items ≡ spread flags.now values.now) }
 {
-    let mut rows = Vec::new(alloc);
+    let mut rows = Vec::with_capacity(alloc, flags.len())?;
     let mut rest = values;
     for flag in flags {
         let (row, others) = next_row(*flag, rest);

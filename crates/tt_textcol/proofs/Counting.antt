@@ -1,12 +1,12 @@
 -- Counts that are at most those of the distinct texts: of each number that texts have, one text is counted.
-use Rattle.std.proofs.Common.{◌≡◌, ℕ, ◌+◌, ◌≤◌, ◌<◌, Bool, true, false, ◌||◌, List, [], ◌∷◌, length, get_or, set, take, refl, sym, ap, subst, ◌∙◌, eq-eqb, arith, Ordering, ◌⊎◌, inl, inr, length-append}
+use Rattle.std.proofs.Common.{◌≡◌, ℕ, zero, suc, ◌+◌, ◌-◌, ◌≤◌, ◌<◌, Bool, true, false, ◌||◌, List, [], ◌∷◌, length, get_or, set, take, refl, sym, ap, subst, ◌∙◌, eq-eqb, arith, Ordering, ◌⊎◌, inl, inr, length-append}
 use Rattle.std.specs.Prelude.{◌==◌}
 use Rattle.std.specs.declared.cmp.Ordering.TheVariants.{Less, Equal, Greater}
 use Rattle.std.specs.Ordering.{is_eq, match_ordering}
 use Rattle.std.specs.List.{flat_map}
 use Rattle.std.proofs.lemmas.Bool.{eqb-true}
 use Rattle.std.proofs.lemmas.Grind.{get_or-set_at}
-use Rattle.std.proofs.lemmas.List.{get_or-set_other}
+use Rattle.std.proofs.lemmas.List.{get_or-set_other, take_all}
 use Rattle.std.proofs.lemmas.List.Folds.{list_any_more}
 use Rattle.tt_value.specs.ColumnBody.{distinct, with_value}
 use Rattle.tt_value.proofs.Distinct.{has, has_with, has_distinct, ascends_with, distinct_ascends, same_ascending}
@@ -93,6 +93,19 @@ distinct_more vs i d lt =
     (λ u. has_distinct text_cmp text_total text_ties u (take (i + 1) vs) ∙ list_any_more (λ x. is_eq (text_cmp u x)) vs i d lt ∙ or_swap (holds u before) (is_eq (text_cmp u v))
     ∙ ap (λ b. is_eq (text_cmp u v) || b) (sym (has_distinct text_cmp text_total text_ties u before)) ∙ sym (has_with text_cmp text_total text_ties u v (distinct text_cmp before)))
 
+-- the distinct texts in front are no more than those of all
+front_no_less : (vs : List (List ℕ)) (i k : ℕ) → i + k ≡ length vs → NoLess (distinct text_cmp (take i vs)) (distinct text_cmp vs)
+front_no_less vs i zero e = subst (λ (us : List (List ℕ)). NoLess (distinct text_cmp us) (distinct text_cmp vs)) (sym (take_all i vs (omega arith))) (omega arith, omega arith)
+front_no_less vs i (suc k) e =
+    let here : NoLess (distinct text_cmp (take i vs)) (distinct text_cmp (take (i + 1) vs))
+    = subst (λ (ds : List (List ℕ)). NoLess (distinct text_cmp (take i vs)) ds) (sym (distinct_more vs i [] (omega arith))) (no_less_with (get_or vs i []) (distinct text_cmp (take i vs))) in
+    let later = front_no_less vs (i + 1) k (omega arith) in
+    let a = here.0 in
+    let b = here.1 in
+    let c = later.0 in
+    let d = later.1 in
+    (omega arith, omega arith)
+
 -- ---- numbers that have come
 
 module _ (number : List ℕ → ℕ) where
@@ -153,3 +166,14 @@ module _ (number : List ℕ → ℕ) where
       go : (q : List ℕ) → (holds q (take i vs) ≡ true) ⊎ (is_eq (text_cmp q (get_or vs i d)) ≡ true) → get_or (set seen (number (get_or vs i d)) true) (number q) false ≡ true
       go q (inl h) = marked_still seen (get_or vs i d) q within (c.0 q h)
       go q (inr h) = get_or-set_at seen (number (get_or vs i d)) (number q) true false (ap number (text_ties q (get_or vs i d) (is_equal (text_cmp q (get_or vs i d)) h))) within
+
+  -- what has been counted in front is no more than the distinct texts of all
+  pub counted_in_front : (seen : List Bool) (vs : List (List ℕ)) (i count bytes : ℕ) → i ≤ length vs → AreCounted seen (take i vs) count bytes
+      → (count ≤ length (distinct text_cmp vs)) × (bytes ≤ length (flat_map text_bytes (distinct text_cmp vs)))
+  counted_in_front seen vs i count bytes le c =
+      let h = front_no_less vs i (length vs - i) (omega arith) in
+      let a = h.0 in
+      let b = h.1 in
+      let p = c.1 in
+      let q = c.2 in
+      (omega arith, omega arith)

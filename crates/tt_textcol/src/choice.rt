@@ -5,7 +5,7 @@ ghost use Rattle.std.specs.List.{flat_map};
 ghost use Rattle.tt_value.specs.ColumnBody.{runs_of, distinct, index_in};
 ghost use Rattle.tt_value.specs.Packing.{bytes_for, width_of};
 ghost use Rattle.tt_textcol.specs.TextBody.{text_bytes, text_cmp, body, code, encoding_of};
-ghost use Rattle.tt_textcol.specs.TextNumber.{text_number};
+ghost use Rattle.tt_textcol.specs.TextNumber.{text_number, number_in};
 
 use crate::encoding::Encoding;
 use crate::parts::packed_size;
@@ -100,10 +100,11 @@ fn text_number(bytes: &[u8]) -> u64
 /// The number of a text, below `size`.
 fn number_of(text: &TextRef<'_>, size: usize) -> usize
     requires { 0 < size }
-    ensures value { result ≡ text_number text.now % size }
+    ensures value { result ≡ number_in size text.now }
     ensures below { result < size }
 {
-    (text_number(text.bytes()) % size as u64) as usize
+    let mixed = text_number(text.bytes()).wrapping_mul(11_400_714_819_323_198_485);
+    ((u128::from(mixed) * size as u128) >> 64) as usize
 }
 
 /// Texts without one twice: how many, and how many bytes they take with their lengths.
@@ -113,26 +114,18 @@ struct Entries {
     bytes: u128,
 }
 
-/// One text for each number that the texts have: at most the distinct texts. The table has 16 places a
-/// text, so that few distinct ones share a number.
-fn numbered(alloc: Global, values: &[TextRef<'_>]) -> Result<Entries, AllocError>
-    ensures count { IfOk result (λ entries. entries.count ≤ length (distinct text_cmp values.now)) }
-    ensures bytes { IfOk result (λ entries. entries.bytes ≤ length (flat_map text_bytes (distinct text_cmp values.now))) }
-    ensures few { IfOk result (λ entries. entries.bytes ≤ 65537 * length values.now) }
+/// The entries with one more text.
+fn one_more(entries: Entries, text: &TextRef<'_>) -> Entries
+    requires count { entries.count < 2 ^ 64 - 1 }
+    requires bytes { entries.bytes ≤ 65537 * 2 ^ 64 }
+    ensures count { result.count ≡ entries.count + 1 }
+    ensures bytes { result.bytes ≡ entries.bytes + (length text.now + 2) }
+    ensures short { length text.now ≤ 65535 }
 {
-    let size = values.len().saturating_mul(16).saturating_add(1);
-    let mut seen = vec![in alloc; false; size]?;
-    let mut count = 0usize;
-    let mut bytes = 0u128;
-    for value in values {
-        let number = number_of(value, size);
-        if !seen[number] {
-            seen[number] = true;
-            count += 1;
-            bytes += value.bytes().len() as u128 + 2;
-        }
+    Entries {
+        count: entries.count + 1,
+        bytes: entries.bytes + text.bytes().len() as u128 + 2,
     }
-    Ok(Entries { count, bytes })
 }
 
 /// How many bytes the body of a dictionary of these entries takes.
@@ -144,6 +137,31 @@ fn dictionary_length(values: usize, entries: Entries) -> u128
     4 + entries.bytes + packed_size(values, width)
 }
 
+/// One text for each number that the texts have: at most the distinct texts. The table has 16 places a
+/// text, so that few distinct ones share a number. Counting ends where a dictionary of so many is not
+/// shorter than `most` bytes.
+fn numbered(alloc: Global, most: u128, values: &[TextRef<'_>]) -> Result<Entries, AllocError>
+    ensures count { IfOk result (λ entries. entries.count ≤ length (distinct text_cmp values.now)) }
+    ensures bytes { IfOk result (λ entries. entries.bytes ≤ length (flat_map text_bytes (distinct text_cmp values.now))) }
+    ensures few { IfOk result (λ entries. entries.bytes ≤ 65537 * length values.now) }
+{
+    let size = values.len().saturating_mul(16).saturating_add(1);
+    let mut seen = vec![in alloc; false; size]?;
+    let mut entries = Entries { count: 0, bytes: 0 };
+    for value in values {
+        let number = number_of(value, size);
+        if seen[number] {
+            continue;
+        }
+        seen[number] = true;
+        entries = one_more(entries, value);
+        if entries.count % 16 == 0 && dictionary_length(values.len(), entries) >= most {
+            return Ok(entries);
+        }
+    }
+    Ok(entries)
+}
+
 /// The distinct texts, ascending, where the body of a dictionary is shorter than so many bytes. The texts
 /// are sorted only where those of distinct numbers are not already too many.
 fn dictionary<'a>(
@@ -153,7 +171,7 @@ fn dictionary<'a>(
 ) -> Result<Option<Vec<TextRef<'a>>>, AllocError>
     ensures { IfOk result (λ entries. MatchOption entries (nat_lt (length (body values.now Encoding.Dictionary)) bytes ≡ false) (λ v. (nat_lt (length (body values.now Encoding.Dictionary)) bytes ≡ true) × (v.items ≡ distinct text_cmp values.now))) }
 {
-    let few = numbered(alloc, values)?;
+    let few = numbered(alloc, bytes, values)?;
     if dictionary_length(values.len(), few) >= bytes {
         return Ok(None);
     }

@@ -22,7 +22,7 @@ pub fn read_values(
 ) -> Result<(Vec<TextRef<'_>>, &[u8]), DecodeError>
     ensures { Gives (λ x. (x.0.items, x.1.now)) result (values_at text_at text_cmp end count bytes.now) }
 {
-    let mut values = Vec::new(alloc);
+    let mut values = Vec::with_capacity(alloc, count.min(bytes.len()))?;
     let mut rest = bytes;
     for _turn in 0..count {
         let (value, after) = read_text(end, rest)?;
@@ -88,7 +88,7 @@ fn read_runs(
 ) -> Result<(Vec<TextRef<'_>>, &[u8]), DecodeError>
     ensures { Gives (λ x. (x.0.items, x.1.now)) result (runs_at text_at text_cmp end count most None bytes.now) }
 {
-    let mut values = Vec::new(alloc);
+    let mut values = Vec::with_capacity(alloc, most)?;
     let mut rest = bytes;
     let mut left = most;
     let mut before = None;
@@ -150,7 +150,7 @@ pub fn read_entries(
 ) -> Result<(Vec<TextRef<'_>>, &[u8]), DecodeError>
     ensures { Gives (λ x. (x.0.items, x.1.now)) result (entries_at text_at text_cmp end count None bytes.now) }
 {
-    let mut values = Vec::new(alloc);
+    let mut values = Vec::with_capacity(alloc, (count as usize).min(bytes.len()))?;
     let mut rest = bytes;
     let mut before = None;
     for _turn in 0..count {
@@ -190,7 +190,7 @@ fn values_at_indexes<'a>(
 ) -> Result<Option<Vec<TextRef<'a>>>, AllocError>
     ensures { IfOk result (λ found. option_map (λ v. v.items) found ≡ values_of entries.now indexes.now) }
 {
-    let mut values = Vec::new(alloc);
+    let mut values = Vec::with_capacity(alloc, indexes.len())?;
     for index in indexes {
         match entries.get(*index as usize) {
             None => return Ok(None),

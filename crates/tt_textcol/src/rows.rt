@@ -94,7 +94,7 @@ fn spread(
 ) -> Result<Vec<Option<Text>>, AllocError>
     ensures { IfOk result (λ rows. rows.items ≡ spread flags.now values.now) }
 {
-    let mut rows = Vec::new(alloc);
+    let mut rows = Vec::with_capacity(alloc, flags.len())?;
     let mut at = 0;
     for flag in flags {
         let (row, next) = row_at(alloc, *flag, values, at)?;

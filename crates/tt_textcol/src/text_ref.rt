@@ -9,7 +9,7 @@ ghost use Rattle.tt_textcol.specs.TextLaws.{text_total};
 use std::alloc::{AllocError, Global};
 use std::cmp::Ordering;
 use std::marker::Model;
-use tt_value::{BadText, Text};
+use tt_value::Text;
 
 /// A text that stands elsewhere: in a row, or in the body of a column. Contracts see its bytes.
 #[derive(Drop)]
@@ -65,11 +65,7 @@ impl<'a> TextRef<'a> {
     pub fn to_text(&self, alloc: Global) -> Result<Text, AllocError>
         ensures { IfOk result (λ t. t ≡ self.now) }
     {
-        match Text::from_str(alloc, self.text) {
-            Ok(text) => Ok(text),
-            Err(BadText::Memory) => Err(AllocError),
-            Err(_) => unreachable!(),
-        }
+        Text::from_valid(alloc, self.text)
     }
 }
 

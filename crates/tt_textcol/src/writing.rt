@@ -36,7 +36,7 @@ fn null_flags(alloc: Global, rows: &[Option<Text>]) -> Result<Vec<u64>, AllocErr
 fn present(alloc: Global, rows: &[Option<Text>]) -> Result<Vec<TextRef<'_>>, AllocError>
     ensures { IfOk result (λ v. v.items ≡ values_of rows.now) }
 {
-    let mut texts = Vec::new(alloc);
+    let mut texts = Vec::with_capacity(alloc, rows.len())?;
     for row in rows {
         if let Some(text) = row {
             texts.push(TextRef::of(text))?;

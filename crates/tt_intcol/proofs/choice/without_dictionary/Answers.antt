@@ -3,7 +3,7 @@ use Rattle.tt_intcol.specs.declared.choice.Length.{Length}
 use Rattle.tt_intcol.specs.declared.encoding.Encoding.{Encoding}
 use Rattle.tt_intcol.specs.declared.encoding.Encoding.TheVariants.{Plain, Frame, Run, Dictionary}
 use Rattle.tt_intcol.specs.IntBody.{body, encoding_of}
-use Rattle.tt_intcol.proofs.Lengths.{chosen_none, chosen_some, shorter, length-dictionary}
+use Rattle.tt_intcol.proofs.Lengths.{chosen_none, chosen_some, shorter, length-dictionary, length-frame}
 use Rattle.tt_intcol.proofs.choice.without_dictionary.Goals as goal
 use Rattle.tt_intcol.proofs.choice.without_dictionary.Goals.{then-not-is_empty, else-not-is_empty}
 
@@ -24,7 +24,7 @@ returns-clause-shortest c =
     let d : ℕ = length (body c.args.kind c.args.values.now Dictionary) in
     let long = length-dictionary c.args.kind c.args.values.now in
     told second d (ltb d second.bytes) refl (encoding_of c.args.kind c.args.values.now) (elim c.if-not-is_empty.branch [
-      | then-not-is_empty w ↦ chosen_some c.args.kind c.args.values.now _ _ _ d c.if-not-is_empty.best second (with_dictionary second d) w.if-not-is_empty.ensures plain (rw size at w.frame_length.ensures) run long (w.best-is ∙ w.shorter-best.ensures) c.shorter.ensures refl
+      | then-not-is_empty w ↦ chosen_some c.args.kind c.args.values.now _ _ _ d c.if-not-is_empty.best second (with_dictionary second d) w.if-not-is_empty.ensures plain (c.requires ∙ length-frame c.args.kind c.args.values.now) run long (w.best-is ∙ w.shorter-best.ensures) c.shorter.ensures refl
       | else-not-is_empty w ↦ chosen_none c.args.kind c.args.values.now _ _ d second (with_dictionary second d) w.if-not-is_empty.ensures plain run long (c.shorter.ensures ∙ ap (λ (best : Length). shorter best (record { encoding = Run; bytes = c.run_length.result })) w.best-is) refl
     ])
 
@@ -51,7 +51,7 @@ returns-clause-other c =
     let first : best.encoding ≢ Dictionary = elim c.if-not-is_empty.branch [
       | then-not-is_empty w ↦
           let plain : Length = record { encoding = Plain; bytes = c.plain_length.result } in
-          let frame : Length = record { encoding = Frame; bytes = w.frame_length.result } in
+          let frame : Length = record { encoding = Frame; bytes = c.args.frame } in
           another best (shorter plain frame) (w.best-is ∙ w.shorter-best.ensures) (either (ltb frame.bytes plain.bytes) plain frame is_plain is_frame)
       | else-not-is_empty w ↦ another best (record { encoding = Plain; bytes = c.plain_length.result }) w.best-is is_plain
     ] in

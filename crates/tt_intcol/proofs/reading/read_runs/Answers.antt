@@ -11,7 +11,7 @@ use Rattle.tt_intcol.proofs.reading.read_runs.Goals as goal
 
 pub returns-in_err-run : goal.returns-in_err-run
 returns-in_err-run c =
-    let p = err_from_is_err_and c.from_residual.result c.from_residual.ensures.1 in
+    let p = err_from_is_err_and c.from_residual-in_err-run.result c.from_residual-in_err-run.ensures.1 in
     rw (p.1, p.2) (passes_on c.in_err-run.field-0.0 _ _ c.in_err-run.ensures.found (λ place e. runs_fault (value_at c.args.kind) int_cmp c.args.end c.loop-turn.values.items c.args.count c.loop-turn.turn c.loop-turn.left c.loop-turn.before c.loop-turn.rest.now place _ c.loop-turn-test.true e c.loop-turn.invariant))
 
 pub loop-turn-preserved : goal.loop-turn-preserved

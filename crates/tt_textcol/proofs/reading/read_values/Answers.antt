@@ -7,7 +7,7 @@ use Rattle.tt_textcol.proofs.reading.read_values.Goals as goal
 
 pub returns-in_err-value : goal.returns-in_err-value
 returns-in_err-value c =
-    let p = err_from_is_err_and c.from_residual.result c.from_residual.ensures.1 in
+    let p = err_from_is_err_and c.from_residual-in_err-value.result c.from_residual-in_err-value.ensures.1 in
     rw (p.1, p.2) (passes_on c.in_err-value.field-0.0 _ _ c.in_err-value.ensures (λ place e. values_fault text_at text_cmp c.args.end c.loop-turn.values.items c.args.count c.loop-turn._turn c.loop-turn.rest.now place _ c.loop-turn-test.true e c.loop-turn.invariant))
 
 pub loop-turn-preserved : goal.loop-turn-preserved
