@@ -1,10 +1,25 @@
 mod ExampleLaws
 pub mod ExpressionLemmas
 pub mod Joining
+pub mod KeptExpressions
+pub mod KeptParts
+pub mod KeptPredicates
+pub mod KeptQueries
+pub mod KeptStatements
 pub mod PlacedWords
 pub mod PredicateLemmas
+pub mod PrintedAgain
 pub mod Spacing
+pub mod SpelledAgain
+pub mod SpelledChanges
+pub mod SpelledExpressions
 pub mod SpelledLiterals
+pub mod SpelledMoments
+pub mod SpelledParts
+pub mod SpelledPredicates
+pub mod SpelledQueries
 pub mod SpelledStatements
+pub mod SpelledTables
 pub mod SpelledTexts
+pub mod SpelledTokens
 pub mod SpelledWords

@@ -13,24 +13,25 @@ use Rattle.std.proofs.Math.Seq.{take-append_seam}
 use Rattle.tt_lex.specs.declared.TokenKind.TheVariants as kinds
 use Rattle.tt_value.specs.CalendarReading.{digits_value, day_of, timestamp_of}
 use Rattle.tt_value.specs.RowText.{quotes_doubled}
-use Rattle.tt_sql.specs.Grammar.{Said, Meant, Tok, Note, Both, Spells, token, note, both, is_of}
+use Rattle.tt_sql.specs.Grammar.{Lexeme, Way, Said, Meant, Tok, Note, Both, Spells, token, note, both, right, is_of}
 use Rattle.tt_sql.specs.Read.{written_rule}
-use Rattle.tt_sql.specs.Parts.{number, quoted as quoted_part, as_number}
-use Rattle.tt_sql.specs.TokenKinds.{upper, unit_words, is_word, is_name, word_kind, SHORT_NUMBER, NUMBER, OTHER_TEXT, is_number, is_quoted, number_kind, text_kind, lexeme, unquoted, undoubled}
+use Rattle.tt_sql.specs.Parts.{◌▸◌, ◌∣◌, one, number, quoted as quoted_part, as_number}
+use Rattle.tt_sql.specs.Written.{name_and_number, only_number}
+use Rattle.tt_sql.specs.TokenKinds.{BY, CLUSTER, OPEN, CLOSE, NAME, upper, unit_words, is_word, is_name, word_kind, SHORT_NUMBER, NUMBER, OTHER_TEXT, is_number, is_quoted, number_kind, text_kind, lexeme, unquoted, undoubled}
 use Rattle.tt_sql.specs.Words.{quoted}
 use Rattle.tt_sql.specs.PrintedTokens.{token_kind}
 use Rattle.tt_sql.specs.PrintedSpelling.{IsSpelledBy}
 
 -- ---- numbers
 
-read_on : ℕ → List ℕ → ℕ
+pub read_on : ℕ → List ℕ → ℕ
 read_on n digits = fold (λ value digit. 10 * value + (digit - 48)) n digits
 
 reads_digits : FoldsDigits read_on
 unfolding read_on
 reads_digits = record { empty = λ n. refl; more = λ n c cs is. (let same : 10 * n + (c - 48) ≡ n * 10 + (c - 48) = omega arith in ap (λ m. read_on m cs) same) }
 
-numerals : IsNumeralModel (λ ds. all_ascii_digits ds ≡ true) (read_on 0)
+pub numerals : IsNumeralModel (λ ds. all_ascii_digits ds ≡ true) (read_on 0)
 numerals = numerals_by_fold _ tells_all_ascii_digits read_on reads_digits
 
 -- the digits of a number mean that number
@@ -58,7 +59,7 @@ pub number_lexeme : (at n : ℕ) → n < 2 ^ 64 → lexeme (token_kind (decimal 
 number_lexeme at n less = ap (λ k. lexeme k (decimal n) at) (decimal_kind n less)
 
 -- one token of a number and its note
-noted_number : (k : ℕ) (more : ℕ → Bool) (at n : ℕ) → n < 2 ^ 64 → is_of k more (number_kind (decimal n)) ≡ true → IsSpelledBy (Both (Tok k more) (Note as_number)) at (decimal n ∷ []) (Meant (pos n) at ∷ [])
+pub noted_number : (k : ℕ) (more : ℕ → Bool) (at n : ℕ) → n < 2 ^ 64 → is_of k more (number_kind (decimal n)) ≡ true → IsSpelledBy (Both (Tok k more) (Note as_number)) at (decimal n ∷ []) (Meant (pos n) at ∷ [])
 noted_number k more at n less known = record {
   around = λ done K l ts d.
       let e = number_lexeme at n less in
@@ -109,4 +110,19 @@ text_quoted at text = record {
       let e : lexeme kinds.Quoted (quoted text) at ≡ record { kind = text_kind text; place = at; text = text } = ap (λ t. record { kind = text_kind t; place = at; text = t }) (unquoted-quoted text) in
       let d' = subst (λ x. Spells written_rule false (x ∷ done) K l ts) e d in
       subst (λ x. Spells written_rule false done (quoted_part ∷ K) (Said text at ∷ l) (x ∷ ts)) (sym e) (both (token (text_is text) (note d')));
+}
+
+-- a number of days where no clustering key stands
+pub lone_number : (at n : ℕ) → n < 2 ^ 63 → IsSpelledBy (Tok SHORT_NUMBER is_number ▸ (one CLUSTER ▸ one BY ▸ one OPEN ▸ Tok NAME is_name ▸ one CLOSE ▸ Note name_and_number ∣ Note only_number)) at (decimal n ∷ []) (Way 0 ∷ Meant (pos n) at ∷ Way 1 ∷ [])
+lone_number at n small = record {
+  around = λ done K l ts d.
+      let less : n < 2 ^ 64 = omega (arith, small) in
+      let t : Lexeme = record { kind = number_kind (decimal n); place = at; text = decimal n } in
+      let e : lexeme (token_kind (decimal n)) (decimal n) at ≡ t = number_lexeme at n less in
+      let g = Tok SHORT_NUMBER is_number ▸ (one CLUSTER ▸ one BY ▸ one OPEN ▸ Tok NAME is_name ▸ one CLOSE ▸ Note name_and_number ∣ Note only_number) in
+      let known : is_of SHORT_NUMBER is_number (number_kind (decimal n)) ≡ true = number_is (decimal n) (subst (λ v. v < 2 ^ 63) (sym (decimal_means n less)) small) in
+      let d' = subst (λ x. Spells written_rule false (x ∷ done) K l ts) e d in
+      let read : Spells written_rule false done (g ∷ K) (Way 0 ∷ Meant (pos (digits_value (decimal n))) at ∷ Way 1 ∷ l) (t ∷ ts) = both (token known (right (note d'))) in
+      let meant : Spells written_rule false done (g ∷ K) (Way 0 ∷ Meant (pos n) at ∷ Way 1 ∷ l) (t ∷ ts) = subst (λ v. Spells written_rule false done (g ∷ K) (Way 0 ∷ Meant (pos v) at ∷ Way 1 ∷ l) (t ∷ ts)) (decimal_means n less) read in
+      subst (λ x. Spells written_rule false done (g ∷ K) (Way 0 ∷ Meant (pos n) at ∷ Way 1 ∷ l) (x ∷ ts)) (sym e) meant;
 }

@@ -1,4 +1,5 @@
--- The trees that the grammar gives: a name stands alone, and a date is a day of the years 1 to 9999.
+-- Trees that their marks determine: a name stands alone, and a date is a day of the years 1 to 9999. All trees that
+-- the grammar gives are among them.
 use Rattle.std.specs.Prelude.{◌≡◌, List, [], ◌∷◌, ◌++◌, None, ⊤}
 use Rattle.tt_value.specs.declared.name.Literal.{Literal}
 use Rattle.tt_value.specs.declared.name.ColumnName.{ColumnName}

@@ -20,6 +20,7 @@ use Rattle.tt_value.specs.declared.predicate.Unit.TheVariants as unit
 use Rattle.tt_value.specs.declared.predicate.Unit.TheVariants.{rolls-Not, rolls-Bracket as rolls-Group, rolls-Compare, rolls-IsNull, rolls-In, rolls-Between, rolls-StartsWith}
 use Rattle.tt_value.specs.declared.predicate.Unit.TheFolds.{fold-roll-Predicate, fold-roll-Conjunction, fold-roll-Unit}
 use Rattle.tt_value.specs.RowText.{IsPrintableValue}
+use Rattle.tt_sql.specs.QueryGiven.{IsListed}
 use Rattle.tt_sql.specs.Given.{Each, Leaf, OfLiteral, OfColumn, AreGiven, joined, operand_leaves, literals_leaves, unit_layer, conjunction_layer, predicate_layer, unit_leaves, conjunction_leaves, predicate_leaves, factor_layer, addend_layer, expr_layer, term_layer, expr_leaves, term_leaves, addend_leaves, factor_leaves}
 
 abbrev L : Type 0
@@ -102,3 +103,21 @@ leaves-Conjunction u others = fold-roll-Conjunction L L L unit_layer conjunction
 pub leaves-Predicate : (c : Conjunction) (others : List Conjunction) → predicate_leaves (roll-Predicate (record { first = c; others = others })) ≡ conjunction_leaves c ++ joined (map conjunction_leaves others)
 unfolding predicate_leaves conjunction_leaves
 leaves-Predicate c others = fold-roll-Predicate L L L unit_layer conjunction_layer predicate_layer _
+
+-- ---- and what is given part by part is given
+
+pub both_given : (xs ys : List Leaf) → AreGiven xs → AreGiven ys → AreGiven (xs ++ ys)
+both_given [] ys g h = h
+both_given (x ∷ xs) ys g h = (g.0, both_given xs ys g.1 h)
+
+pub each_given : {A : Type 0} (leaves : A → List Leaf) (xs : List A) → Each (λ x. AreGiven (leaves x)) xs → AreGiven (joined (map leaves xs))
+each_given leaves [] g = tt
+each_given leaves (x ∷ xs) g = both_given (leaves x) (joined (map leaves xs)) g.0 (each_given leaves xs g.1)
+
+literals_each : (literals : List Literal) → Each (λ l. IsPrintableValue l.value) literals → AreGiven (literals_leaves literals)
+literals_each [] g = tt
+literals_each (l ∷ literals) g = (g.0, literals_each literals g.1)
+
+pub literals_given : (literals : List Literal) → IsListed (λ l. IsPrintableValue l.value) literals → AreGiven (literals_leaves literals)
+literals_given [] g = tt
+literals_given (l ∷ literals) g = (g.0, literals_each literals g.1)

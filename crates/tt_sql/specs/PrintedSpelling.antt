@@ -1,14 +1,14 @@
 -- How the words of a printed statement are spelled by the grammar.
-use Rattle.std.specs.Prelude.{◌≡◌, ℕ, ◌+◌, false, true, List, [], ◌∷◌, ◌++◌, length, None}
+use Rattle.std.specs.Prelude.{◌≡◌, ℕ, ◌+◌, false, true, List, [], ◌∷◌, ◌++◌, map, length, None}
 use Rattle.tt_value.specs.declared.name.Name.{Name}
 use Rattle.tt_value.specs.declared.name.TableName.{TableName}
-use Rattle.tt_sql.specs.Grammar.{Lexeme, Mark, Gram, Spells}
+use Rattle.tt_sql.specs.Grammar.{Lexeme, Mark, Way, At, Said, Meant, Gram, Spells}
 use Rattle.tt_sql.specs.Read.{written_rule}
 use Rattle.tt_sql.specs.TokenKinds.{upper, is_word, is_name, word_kind}
 use Rattle.tt_sql.specs.Words.{Words}
 use Rattle.tt_sql.specs.declared.statement.Statement.{Statement}
 use Rattle.tt_sql.specs.StatementText.{statement_words}
-use Rattle.tt_sql.specs.PrintedTokens.{lexemes_at}
+use Rattle.tt_sql.specs.PrintedTokens.{AreTokens, lexemes_at}
 
 -- the place behind words and a blank
 abbrev pub place_behind : ℕ → Words → ℕ
@@ -24,6 +24,23 @@ onto (t ∷ ts) done = onto ts (t ∷ done)
 pub record IsSpelledBy (g : Gram) (at : ℕ) (words : Words) (m : List Mark) : Type 0 where
   pub around : (done : List Lexeme) (K : List Gram) (n : List Mark) (ts : List Lexeme)
       → Spells written_rule false (onto (lexemes_at at words) done) K n ts → Spells written_rule false done (g ∷ K) (m ++ n) (lexemes_at at words ++ ts)
+
+-- marks but for their places
+abbrev pub unplaced_mark : Mark → Mark
+unplaced_mark (Way k) = Way k
+unplaced_mark (At place) = At 0
+unplaced_mark (Said text place) = Said text 0
+unplaced_mark (Meant n place) = Meant n 0
+
+abbrev pub unplaced : List Mark → List Mark
+unplaced m = map unplaced_mark m
+
+-- These words are tokens. Wherever they stand, they spell this part and note these marks, but for the places.
+pub record IsReadAs (g : Gram) (words : Words) (m : List Mark) : Type 0 where
+  pub tokens : AreTokens words
+  pub notes : ℕ → List Mark
+  pub alike : (at : ℕ) → unplaced (notes at) ≡ unplaced m
+  pub spelled : (at : ℕ) → IsSpelledBy g at words (notes at)
 
 -- A name as a tree has it: a word in upper case, not reserved and not too long.
 pub record IsNameText (text : List ℕ) : Type 0 where

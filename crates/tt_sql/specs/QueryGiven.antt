@@ -1,4 +1,5 @@
--- The queries that the grammar gives: names stand alone, lists are not empty, and there are no further tables yet.
+-- Queries that their marks determine: names stand alone, lists are not empty, and there are no further tables yet. All
+-- that the grammar gives are among them.
 use Rattle.std.specs.Prelude.{◌≡◌, List, [], ◌∷◌, Option, Some, None, ⊤}
 use Rattle.tt_value.specs.declared.name.ColumnName.{ColumnName}
 use Rattle.tt_value.specs.declared.name.TableName.{TableName}

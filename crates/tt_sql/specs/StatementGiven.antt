@@ -1,5 +1,5 @@
--- The statements that the grammar gives: names stand alone, lists are not empty, and dates are days of the years 1
--- to 9999.
+-- Statements that their marks determine: names stand alone, lists are not empty, and dates are days of the years 1 to
+-- 9999. All that the grammar gives are among them.
 use Rattle.std.specs.Prelude.{⊤}
 use Rattle.tt_value.specs.RowText.{IsPrintableValue}
 use Rattle.tt_sql.specs.declared.change.Dml.{Dml}

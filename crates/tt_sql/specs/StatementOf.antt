@@ -1,14 +1,14 @@
 -- The statement of a text, or the place of its fault.
-use Rattle.std.specs.Prelude.{ℕ, Bool, true, false, ◌==◌, ◌&&◌, if◌then◌else◌, bytes_eq, List, [], ◌∷◌, length, Option, Some, None, Result, Ok, Err}
-use Rattle.std.specs.Ordering.{int_eq}
+use Rattle.std.specs.Prelude.{◌≡◌, ℕ, List, length, Option, Some, None, Result, Ok, Err, ◌⊎◌}
 use Rattle.tt_lex.specs.declared.Token.{Token}
 use Rattle.tt_lex.specs.declared.LexFault.{LexFault}
 use Rattle.tt_lex.specs.declared.LexFault.TheVariants.{BadByte, UnclosedText, UnclosedComment, BackslashInText, TextTooLong}
 use Rattle.tt_lex.specs.TokensOf.{tokens_of}
 use Rattle.tt_sql.specs.declared.statement.Statement.{Statement}
-use Rattle.tt_sql.specs.Grammar.{Mark, Way, At, Said, Meant}
-use Rattle.tt_sql.specs.GrammarLaws.{read_run}
+use Rattle.tt_sql.specs.Grammar.{Mark}
+use Rattle.tt_sql.specs.GrammarLaws.{IsStatement, HasFaultAt, read_run}
 use Rattle.tt_sql.specs.TokenKinds.{lexemes}
+use Rattle.tt_sql.specs.PrintedStatements.{IsWrittenStatement}
 use Rattle.tt_sql.specs.StatementMarks.{statement_marks}
 use Rattle.tt_sql.specs.StatementTrees.{statement_tree}
 
@@ -23,29 +23,39 @@ fault_place (UnclosedComment place) = place
 fault_place (BackslashInText place) = place
 fault_place (TextTooLong place) = place
 
--- ---- marks are compared
+-- ---- which texts are statements, and which have a fault
 
-abbrev pub same_mark : Mark → Mark → Bool
-same_mark (Way i) (Way j) = i == j
-same_mark (At i) (At j) = i == j
-same_mark (Said xs i) (Said ys j) = bytes_eq xs ys && i == j
-same_mark (Meant x i) (Meant y j) = int_eq x y && i == j
-same_mark x y = false
+-- the tokens of the text spell this statement
+pub record IsTextOf (text : List ℕ) (s : Statement) : Type 0 where
+  pub tokens : List Token
+  pub has : tokens_of text ≡ Ok tokens
+  pub spelled : IsStatement most_levels (statement_marks s) (lexemes text tokens)
+  pub written : IsWrittenStatement most_levels s
 
-abbrev pub same_marks : List Mark → List Mark → Bool
-same_marks [] [] = true
-same_marks (x ∷ xs) (y ∷ ys) = same_mark x y && same_marks xs ys
-same_marks xs ys = false
+-- a fault within a token
+pub record HasTokenFault (text : List ℕ) (at : ℕ) : Type 0 where
+  pub fault : LexFault
+  pub has : tokens_of text ≡ Err fault
+  pub here : at ≡ fault_place fault
 
--- ---- statements
+-- a fault of the tokens
+pub record HasGrammarFault (text : List ℕ) (at : ℕ) : Type 0 where
+  pub tokens : List Token
+  pub has : tokens_of text ≡ Ok tokens
+  pub here : HasFaultAt most_levels (length text) (lexemes text tokens) at
+
+abbrev pub HasSyntaxFault : List ℕ → ℕ → Type 0
+HasSyntaxFault text at = HasTokenFault text at ⊎ HasGrammarFault text at
+
+-- ---- the statement
 
 -- the statement that has these marks
-abbrev pub of_tree : ℕ → List Mark → Option Statement → Result Statement ℕ
-of_tree end m None = Err end
-of_tree end m (Some s) = if same_marks (statement_marks s) m then Ok s else Err end
+abbrev pub of_tree : ℕ → Option Statement → Result Statement ℕ
+of_tree end None = Err end
+of_tree end (Some s) = Ok s
 
 abbrev pub of_reading : ℕ → Result (List Mark) ℕ → Result Statement ℕ
-of_reading end (Ok m) = of_tree end m (statement_tree m)
+of_reading end (Ok m) = of_tree end (statement_tree m)
 of_reading end (Err place) = Err place
 
 abbrev pub of_tokens : List ℕ → Result (List Token) LexFault → Result Statement ℕ

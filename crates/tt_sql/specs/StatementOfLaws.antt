@@ -1,67 +1,31 @@
--- The statement of a text is that which its tokens spell, and the place of its fault is that of its tokens.
-use Rattle.std.proofs.Common.{◌≡◌, ℕ, Bool, true, false, ◌==◌, if◌then◌else◌, bytes_eq, List, [], ◌∷◌, length, Option, Some, None, Result, Ok, Err, is_ok, refl, sym, ap, ap₂, ◌∙◌, subst, true≢false, eqb-true, eq-eqb}
-use Rattle.std.proofs.lemmas.Bool.{and_parts, and_from}
-use Rattle.std.proofs.lemmas.Bool.Decides.{Decides-int_eq}
-use Rattle.std.proofs.lemmas.Slice.Eq.{bytes_eq-Decides}
-use Rattle.std.specs.Ordering.{int_eq}
+-- The statement of a text is that which its tokens spell, and the place of its fault is that of its tokens. Each text
+-- has the one or the other.
+use Rattle.std.proofs.Common.{◌≡◌, ℕ, List, length, Result, Ok, Err, is_ok, ◌⊎◌, inl, inr, refl, sym, ap, ◌∙◌, subst, true≢false}
 use Rattle.tt_lex.specs.declared.Token.{Token}
 use Rattle.tt_lex.specs.declared.LexFault.{LexFault}
 use Rattle.tt_lex.specs.TokensOf.{tokens_of}
 use Rattle.tt_sql.specs.declared.statement.Statement.{Statement}
-use Rattle.tt_sql.specs.Grammar.{Mark, Lexeme, Way, At, Said, Meant}
-use Rattle.tt_sql.specs.GrammarLaws.{IsStatement, HasFaultAt, read_run, statement_ok, statement_only, statement_err_only, lexemes_known}
+use Rattle.tt_sql.specs.Grammar.{Mark}
+use Rattle.tt_sql.specs.GrammarLaws.{IsStatement, HasFaultAt, read_run, statement_ok, statement_only, statement_err, statement_err_only, lexemes_known}
 use Rattle.tt_sql.specs.TokenKinds.{lexemes}
 use Rattle.tt_sql.specs.StatementMarks.{statement_marks}
 use Rattle.tt_sql.specs.StatementGiven.{IsGivenStatement}
-use Rattle.tt_sql.specs.StatementTrees.{statement_tree}
 use Rattle.tt_sql.specs.StatementTreesLaws.{statement_reads}
-use Rattle.tt_sql.specs.StatementOf.{most_levels, fault_place, same_mark, same_marks, of_tree, of_reading, of_tokens, statement_of}
+use Rattle.tt_sql.specs.LexemeFacts.{lexemes_are}
+use Rattle.tt_sql.specs.WholeTrees.{Tree}
+use Rattle.tt_sql.specs.PrintedStatements.{IsWrittenStatement}
+use Rattle.tt_sql.specs.WrittenGiven.{statement_given}
+use Rattle.tt_sql.specs.WholeStatements.{whole_statement}
+use Rattle.tt_sql.specs.StatementOf.{most_levels, fault_place, IsTextOf, HasSyntaxFault, of_tree, of_reading, of_tokens, statement_of}
 
--- ---- marks are compared
-
-mark_is : (x y : Mark) → same_mark x y ≡ true → x ≡ y
-mark_is (Way i) (Way j) e = ap (λ (k : ℕ). Way k) (eqb-true i j e)
-mark_is (Way i) (At j) e = absurd (true≢false (sym e))
-mark_is (Way i) (Said ys j) e = absurd (true≢false (sym e))
-mark_is (Way i) (Meant y j) e = absurd (true≢false (sym e))
-mark_is (At i) (Way j) e = absurd (true≢false (sym e))
-mark_is (At i) (At j) e = ap (λ (k : ℕ). At k) (eqb-true i j e)
-mark_is (At i) (Said ys j) e = absurd (true≢false (sym e))
-mark_is (At i) (Meant y j) e = absurd (true≢false (sym e))
-mark_is (Said xs i) (Way j) e = absurd (true≢false (sym e))
-mark_is (Said xs i) (At j) e = absurd (true≢false (sym e))
-mark_is (Said xs i) (Said ys j) e = let both = and_parts (bytes_eq xs ys) (i == j) e in ap₂ (λ (zs : List ℕ) (k : ℕ). Said zs k) ((bytes_eq-Decides xs ys).0 both.0) (eqb-true i j both.1)
-mark_is (Said xs i) (Meant y j) e = absurd (true≢false (sym e))
-mark_is (Meant x i) (Way j) e = absurd (true≢false (sym e))
-mark_is (Meant x i) (At j) e = absurd (true≢false (sym e))
-mark_is (Meant x i) (Said ys j) e = absurd (true≢false (sym e))
-mark_is (Meant x i) (Meant y j) e = let both = and_parts (int_eq x y) (i == j) e in ap₂ (λ z (k : ℕ). Meant z k) ((Decides-int_eq x y).0 both.0) (eqb-true i j both.1)
-
-marks_are : (xs ys : List Mark) → same_marks xs ys ≡ true → xs ≡ ys
-marks_are [] [] e = refl
-marks_are [] (y ∷ ys) e = absurd (true≢false (sym e))
-marks_are (x ∷ xs) [] e = absurd (true≢false (sym e))
-marks_are (x ∷ xs) (y ∷ ys) e = let both = and_parts (same_mark x y) (same_marks xs ys) e in ap₂ (λ (z : Mark) (zs : List Mark). z ∷ zs) (mark_is x y both.0) (marks_are xs ys both.1)
-
-mark_same : (x : Mark) → same_mark x x ≡ true
-mark_same (Way i) = eq-eqb i i refl
-mark_same (At i) = eq-eqb i i refl
-mark_same (Said xs i) = and_from (bytes_eq xs xs) (i == i) ((bytes_eq-Decides xs xs).1 refl) (eq-eqb i i refl)
-mark_same (Meant x i) = and_from (int_eq x x) (i == i) ((Decides-int_eq x x).1 refl) (eq-eqb i i refl)
-
-marks_same : (xs : List Mark) → same_marks xs xs ≡ true
-marks_same [] = refl
-marks_same (x ∷ xs) = and_from (same_mark x x) (same_marks xs xs) (mark_same x) (marks_same xs)
-
--- ---- statements
+-- ---- what is spelled is found
 
 pub found_statement : (text : List ℕ) (tokens : List Token) (s : Statement) → tokens_of text ≡ Ok tokens → IsGivenStatement s → IsStatement most_levels (statement_marks s) (lexemes text tokens) → statement_of text ≡ Ok s
 unfolding statement_of
 found_statement text tokens s e given spelled =
     ap (of_tokens text) e
     ∙ ap (of_reading (length text)) (statement_only most_levels (length text) (lexemes text tokens) (statement_marks s) (lexemes_known text tokens) spelled)
-    ∙ ap (of_tree (length text) (statement_marks s)) (statement_reads s given)
-    ∙ ap (λ (b : Bool). if b then Ok s else Err (length text)) (marks_same (statement_marks s))
+    ∙ ap (of_tree (length text)) (statement_reads s given)
 
 pub found_fault : (text : List ℕ) (tokens : List Token) (at : ℕ) → tokens_of text ≡ Ok tokens → HasFaultAt most_levels (length text) (lexemes text tokens) at → statement_of text ≡ Err at
 unfolding statement_of
@@ -73,39 +37,70 @@ pub found_lex_fault : (text : List ℕ) (fault : LexFault) → tokens_of text �
 unfolding statement_of
 found_lex_fault text fault e = ap (of_tokens text) e
 
--- ---- and only that one
+pub found_syntax_fault : (text : List ℕ) (at : ℕ) → HasSyntaxFault text at → statement_of text ≡ Err at
+found_syntax_fault text at (inl f) = found_lex_fault text f.fault f.has ∙ ap (λ (n : ℕ). Err n) (sym f.here)
+found_syntax_fault text at (inr f) = found_fault text f.tokens at f.has f.here
 
-err_is_ok : {A : Type 0} {B : Type 0} (a : B) (x : A) → Err a ≡ Ok x → ⊥
-err_is_ok a x e = true≢false (sym (ap is_ok e))
+-- ---- each text has a statement or a fault
 
-statement_or : Statement → Result Statement ℕ → Statement
-statement_or d (Ok s) = s
-statement_or d (Err place) = d
+-- what the tokens of a text note are the marks of a tree
+pub whole_text : (text : List ℕ) (tokens : List Token) (m : List Mark) → tokens_of text ≡ Ok tokens → IsStatement most_levels m (lexemes text tokens) → Tree statement_marks (IsWrittenStatement most_levels) m
+whole_text text tokens m e d = whole_statement most_levels m (lexemes text tokens) (lexemes_are text tokens e) d
 
-abbrev okay : Statement → Result Statement ℕ
-okay s = Ok s
+abbrev Answer : List ℕ → Type 0
+Answer text = ((s : Statement) × IsTextOf text s) ⊎ ((at : ℕ) × HasSyntaxFault text at)
 
-ok_same : (x y : Statement) → okay x ≡ okay y → x ≡ y
-unfolding statement_or
-ok_same x y e = ap (statement_or x) e
+by_reading : (text : List ℕ) (tokens : List Token) → tokens_of text ≡ Ok tokens → (r : Result (List Mark) ℕ) → read_run most_levels (length text) (lexemes text tokens) ≡ r → Answer text
+by_reading text tokens has (Ok m) e =
+    let d = statement_ok most_levels (length text) (lexemes text tokens) m e in
+    let whole = whole_text text tokens m has d in
+    inl (whole.tree, record { tokens = tokens; has = has; spelled = subst (λ (l : List Mark). IsStatement most_levels l (lexemes text tokens)) (sym whole.same) d; written = whole.given })
+by_reading text tokens has (Err at) e = inr (at, inr (record { tokens = tokens; has = has; here = statement_err most_levels (length text) (lexemes text tokens) at (lexemes_known text tokens) e }))
 
-module _ (text : List ℕ) (s : Statement) where
-  by_test : (ts : List Lexeme) (m : List Mark) (x : Statement) (b : Bool) → same_marks (statement_marks x) m ≡ b → IsStatement most_levels m ts → (if b then Ok x else Err (length text)) ≡ Ok s → IsStatement most_levels (statement_marks s) ts
-  by_test ts m x true e d f = subst (λ (y : Statement). IsStatement most_levels (statement_marks y) ts) (ok_same x s f) (subst (λ (z : List Mark). IsStatement most_levels z ts) (sym (marks_are (statement_marks x) m e)) d)
-  by_test ts m x false e d f = absurd (err_is_ok (length text) s f)
+by_tokens : (text : List ℕ) (r : Result (List Token) LexFault) → tokens_of text ≡ r → Answer text
+by_tokens text (Ok tokens) e = by_reading text tokens e (read_run most_levels (length text) (lexemes text tokens)) refl
+by_tokens text (Err fault) e = inr (fault_place fault, inl (record { fault = fault; has = e; here = refl }))
 
-  by_tree : (ts : List Lexeme) (m : List Mark) (o : Option Statement) → IsStatement most_levels m ts → of_tree (length text) m o ≡ Ok s → IsStatement most_levels (statement_marks s) ts
-  by_tree ts m None d f = absurd (err_is_ok (length text) s f)
-  by_tree ts m (Some x) d f = by_test ts m x (same_marks (statement_marks x) m) refl d f
+pub statement_or_fault : (text : List ℕ) → ((s : Statement) × IsTextOf text s) ⊎ ((at : ℕ) × HasSyntaxFault text at)
+statement_or_fault text = by_tokens text (tokens_of text) refl
 
-  by_reading : (tokens : List Token) (r : Result (List Mark) ℕ) → read_run most_levels (length text) (lexemes text tokens) ≡ r → of_reading (length text) r ≡ Ok s → IsStatement most_levels (statement_marks s) (lexemes text tokens)
-  by_reading tokens (Ok m) e f = by_tree (lexemes text tokens) m (statement_tree m) (statement_ok most_levels (length text) (lexemes text tokens) m e) f
-  by_reading tokens (Err place) e f = absurd (err_is_ok place s f)
+-- ---- and what is found is spelled
 
-  by_tokens : (r : Result (List Token) LexFault) → tokens_of text ≡ r → of_tokens text r ≡ Ok s → (tokens : List Token) × (tokens_of text ≡ Ok tokens) × IsStatement most_levels (statement_marks s) (lexemes text tokens)
-  by_tokens (Ok tokens) e f = (tokens, e, by_reading tokens (read_run most_levels (length text) (lexemes text tokens)) refl f)
-  by_tokens (Err fault) e f = absurd (err_is_ok (fault_place fault) s f)
+statement_else : Statement → Result Statement ℕ → Statement
+statement_else d (Ok s) = s
+statement_else d (Err at) = d
 
-  pub only_statement : statement_of text ≡ Ok s → (tokens : List Token) × (tokens_of text ≡ Ok tokens) × IsStatement most_levels (statement_marks s) (lexemes text tokens)
-  unfolding statement_of
-  only_statement e = by_tokens (tokens_of text) refl e
+place_else : ℕ → Result Statement ℕ → ℕ
+place_else d (Ok s) = d
+place_else d (Err at) = at
+
+abbrev Found : Type 0
+Found = Result Statement ℕ
+
+not_both : (r : Found) (s : Statement) (at : ℕ) → r ≡ Ok s → r ≡ Err at → ⊥
+not_both r s at e f = true≢false (sym (ap is_ok e) ∙ ap is_ok f)
+
+same_statement : (r : Found) (x y : Statement) → r ≡ Ok x → r ≡ Ok y → x ≡ y
+unfolding statement_else
+same_statement r x y e f = sym (ap (statement_else x) e) ∙ ap (statement_else x) f
+
+same_place : (r : Found) (i j : ℕ) → r ≡ Err i → r ≡ Err j → i ≡ j
+unfolding place_else
+same_place r i j e f = sym (ap (place_else i) e) ∙ ap (place_else i) f
+
+pub is_text_of : (text : List ℕ) (s : Statement) → statement_of text ≡ Ok s → IsTextOf text s
+is_text_of text s e = by_answer (statement_or_fault text)
+  where
+    by_answer : Answer text → IsTextOf text s
+    by_answer (inl found) = subst (IsTextOf text) (same_statement (statement_of text) found.0 s (found_statement text found.1.tokens found.0 found.1.has (statement_given most_levels found.0 found.1.written) found.1.spelled) e) found.1
+    by_answer (inr fault) = absurd (not_both (statement_of text) s fault.0 e (found_syntax_fault text fault.0 fault.1))
+
+pub is_fault_of : (text : List ℕ) (at : ℕ) → statement_of text ≡ Err at → HasSyntaxFault text at
+is_fault_of text at e = by_answer (statement_or_fault text)
+  where
+    by_answer : Answer text → HasSyntaxFault text at
+    by_answer (inl found) = absurd (not_both (statement_of text) found.0 at (found_statement text found.1.tokens found.0 found.1.has (statement_given most_levels found.0 found.1.written) found.1.spelled) e)
+    by_answer (inr fault) = subst (HasSyntaxFault text) (same_place (statement_of text) fault.0 at (found_syntax_fault text fault.0 fault.1) e) fault.1
+
+pub only_statement : (text : List ℕ) (s : Statement) → statement_of text ≡ Ok s → (tokens : List Token) × (tokens_of text ≡ Ok tokens) × IsStatement most_levels (statement_marks s) (lexemes text tokens)
+only_statement text s e = let is = is_text_of text s e in (is.tokens, is.has, is.spelled)

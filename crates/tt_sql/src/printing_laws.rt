@@ -10,7 +10,7 @@ ghost use Rattle.tt_sql.specs.declared.table.Change.TheVariants.{RenameTo, SwapW
 ghost use Rattle.tt_sql.specs.declared.statement.Statement.{Statement};
 ghost use Rattle.tt_sql.specs.declared.statement.Statement.TheVariants.{Dml, Drop, Undrop, Truncate, Alter, Begin, Commit, Rollback, Show, Metrics};
 ghost use Rattle.tt_sql.specs.StatementText.{statement_words, statement_text};
-ghost use Rattle.tt_sql.specs.Grammar.{Way, Said, Meant};
+ghost use Rattle.tt_sql.specs.Grammar.{Mark, Way, Said, Meant};
 ghost use Rattle.tt_sql.specs.GrammarLaws.{IsStatement};
 ghost use Rattle.tt_sql.specs.TokenKinds.{lexemes};
 ghost use Rattle.tt_sql.specs.PrintedTokens.{IsWritable, tokens_at, lexemes_at};
@@ -18,9 +18,23 @@ ghost use Rattle.std.specs.Fmt.{decimal};
 ghost use Rattle.tt_value.specs.declared.value.Value.{Value};
 ghost use Rattle.tt_sql.specs.Parts as parts;
 ghost use Rattle.tt_sql.specs.Words.{quoted, value_words};
-ghost use Rattle.tt_sql.specs.Written.{literal};
-ghost use Rattle.tt_sql.specs.PrintedLiterals.{IsWrittenValue, literal_notes};
-ghost use Rattle.tt_sql.specs.PrintedSpelling.{IsNameText, IsSpelledBy, place_behind, plain, printed_lexemes};
+ghost use Rattle.tt_sql.specs.PrintedLiterals.{IsWrittenValue};
+ghost use Rattle.tt_sql.specs.PrintedSpelling.{IsNameText, IsSpelledBy, IsReadAs, unplaced, place_behind, plain, printed_lexemes};
+ghost use Rattle.tt_value.specs.declared.expression.Expr.{Expr};
+ghost use Rattle.tt_value.specs.declared.predicate.Predicate.{Predicate};
+ghost use Rattle.tt_sql.specs.Written.{literal, expr, pred, query, statement};
+ghost use Rattle.tt_sql.specs.Marks.{value_marks, expr_marks, predicate_marks};
+ghost use Rattle.tt_sql.specs.ExpressionWords.{expr_words};
+ghost use Rattle.tt_sql.specs.PredicateWords.{predicate_words};
+ghost use Rattle.tt_sql.specs.declared.query.Query.{Query};
+ghost use Rattle.tt_sql.specs.QueryWords.{query_words};
+ghost use Rattle.tt_sql.specs.QueryMarks.{query_marks};
+ghost use Rattle.tt_sql.specs.PrintedQueries.{IsWrittenQuery};
+ghost use Rattle.tt_sql.specs.StatementMarks.{statement_marks};
+ghost use Rattle.tt_sql.specs.StatementOf.{most_levels, statement_of};
+ghost use Rattle.tt_sql.specs.PrintedAgain.{IsReadAgain};
+ghost use Rattle.tt_sql.specs.PrintedStatements.{IsWrittenStatement};
+ghost use Rattle.tt_sql.specs.PrintedTrees.{IsWrittenExpr, IsWrittenPredicate};
 
 /// The tokens of a printed statement are its words, each where it stands in the text.
 pub fn a_printed_statement_has_its_words()
@@ -33,7 +47,7 @@ pub fn printed_words_are_read_again()
     ensures name { (at : ℕ) (text : List ℕ) → IsNameText text → IsSpelledBy parts.name at (text ∷ []) (Said text at ∷ []) }
     ensures number { (at n : ℕ) → n < 2 ^ 63 → IsSpelledBy parts.number at (decimal n ∷ []) (Meant (pos n) at ∷ []) }
     ensures text { (at : ℕ) (text : List ℕ) → IsSpelledBy parts.quoted at (quoted text ∷ []) (Said text at ∷ []) }
-    ensures literal { (at : ℕ) (value : Value) → IsWrittenValue value → IsSpelledBy literal at (value_words value) (literal_notes at value) }
+    ensures literal { (at : ℕ) (value : Value) → IsWrittenValue value → IsSpelledBy literal at (value_words value) (value_marks value at) }
 {}
 
 /// The words of these printed statements are the same statement again: what they say is noted, with the places of
@@ -56,4 +70,28 @@ pub fn a_printed_statement_is_a_statement()
     ensures drop_key { (levels : ℕ) (table : Name) → IsNameText table.text → IsStatement levels (Said table.text 12 ∷ Way 4 ∷ Way 10 ∷ []) (printed_lexemes (Alter (record { table = plain table; change = DropClusteringKey }))) }
     ensures suspend { (levels : ℕ) (table : Name) → IsNameText table.text → IsStatement levels (Said table.text 12 ∷ Way 5 ∷ Way 10 ∷ []) (printed_lexemes (Alter (record { table = plain table; change = SuspendRecluster }))) }
     ensures resume { (levels : ℕ) (table : Name) → IsNameText table.text → IsStatement levels (Said table.text 12 ∷ Way 6 ∷ Way 10 ∷ []) (printed_lexemes (Alter (record { table = plain table; change = ResumeRecluster }))) }
+{}
+
+/// Expressions, predicates, queries and statements with at most so many levels are read as what they were printed
+/// from, but for the places. Their words are tokens of the lexer.
+pub fn printed_trees_are_read_again()
+    ensures expression { (levels : ℕ) (e : Expr) → IsWrittenExpr levels e → IsReadAs (expr levels) (expr_words e) (expr_marks e) }
+    ensures predicate { (levels : ℕ) (p : Predicate) → IsWrittenPredicate levels p → IsReadAs (pred levels) (predicate_words p) (predicate_marks p) }
+    ensures query { (levels : ℕ) (q : Query) → IsWrittenQuery levels q → IsReadAs (query levels) (query_words q) (query_marks q) }
+    ensures every { (levels : ℕ) (s : Statement) → IsWrittenStatement levels s → IsReadAs (statement levels) (statement_words s) (statement_marks s) }
+{}
+
+/// The tokens of a printed statement are its words, and are a statement of the grammar again: the same one, but for
+/// the places.
+pub fn printed_statements_are_statements()
+    ensures writable { (levels : ℕ) (s : Statement) → IsWrittenStatement levels s → IsWritable s }
+    ensures again { (levels : ℕ) (s : Statement) → IsWrittenStatement levels s
+        → (m : List Mark) × (unplaced m ≡ unplaced (statement_marks s)) × IsStatement levels m (printed_lexemes s) }
+{}
+
+/// The text of a printed statement is that of a statement: the same one, with the places of the printed text. So it
+/// is for each statement that a text has.
+pub fn printed_texts_are_read_again()
+    ensures written { (s : Statement) → IsWrittenStatement most_levels s → IsReadAgain s }
+    ensures text { (text : List ℕ) (s : Statement) → statement_of text ≡ Ok s → IsReadAgain s }
 {}

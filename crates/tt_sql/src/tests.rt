@@ -155,6 +155,12 @@ fn difference(alloc: Global) -> Result<Expr, Fail> {
     })
 }
 
+/// A minus in front of a literal.
+fn negated(alloc: Global, value: Value) -> Result<Factor, Fail> {
+    let behind = Boxed::new(alloc, Factor::Literal(literal(value)))?;
+    Ok(Factor::Negated(0, behind))
+}
+
 /// `SELECT *` of T, with a clause and a predicate.
 fn rows_of_t(
     alloc: Global,
@@ -282,6 +288,18 @@ fn items_are_expressions_and_aggregates(rt: HostRuntime) -> Result<(), Fail> {
         (
             Item::Max(9, column(alloc, "A")?),
             "|SELECT MAX ( A ) FROM T"
+        ),
+        (
+            Item::Expr(expr(alloc, negated(alloc, Value::Int(0))?)),
+            "|SELECT - - 0 FROM T"
+        ),
+        (
+            Item::Expr(expr(alloc, negated(alloc, Value::Int(-5))?)),
+            "|SELECT - - 5 FROM T"
+        ),
+        (
+            Item::Expr(expr(alloc, Factor::Literal(literal(Value::Int(0))))),
+            "|SELECT 0 FROM T"
         ),
     ]?;
     for (item, text) in items {

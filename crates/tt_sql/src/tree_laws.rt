@@ -7,16 +7,21 @@ ghost use Rattle.tt_value.specs.declared.expression.Factor.{Factor};
 ghost use Rattle.tt_value.specs.declared.predicate.Predicate.{Predicate};
 ghost use Rattle.tt_value.specs.declared.predicate.Unit.{Unit};
 ghost use Rattle.tt_sql.specs.declared.query.Query.{Query};
-ghost use Rattle.std.specs.Prelude.{Some, Ok, Err, List, length};
+ghost use Rattle.std.specs.Prelude.{Some, Ok, Err, List, length, ◌↔◌, ◌⊎◌};
 ghost use Rattle.tt_lex.specs.declared.Token.{Token};
 ghost use Rattle.tt_lex.specs.declared.LexFault.{LexFault};
 ghost use Rattle.tt_lex.specs.TokensOf.{tokens_of};
 ghost use Rattle.tt_sql.specs.GrammarLaws.{IsStatement, HasFaultAt};
 ghost use Rattle.tt_sql.specs.TokenKinds.{lexemes};
-ghost use Rattle.tt_sql.specs.StatementOf.{most_levels, fault_place, statement_of};
+ghost use Rattle.tt_sql.specs.StatementOf.{most_levels, fault_place, IsTextOf, HasSyntaxFault, statement_of};
+ghost use Rattle.tt_sql.specs.Grammar.{Mark, Lexeme};
+ghost use Rattle.tt_sql.specs.LexemeFacts.{AreLexemes};
 ghost use Rattle.tt_sql.specs.declared.statement.Statement.{Statement};
 ghost use Rattle.tt_sql.specs.StatementGiven.{IsGivenStatement};
+ghost use Rattle.tt_sql.specs.PrintedStatements.{IsWrittenStatement};
 ghost use Rattle.tt_sql.specs.StatementMarks.{statement_marks};
+ghost use Rattle.tt_sql.specs.PrintedSpelling.{unplaced};
+ghost use Rattle.tt_sql.specs.Unplaced.{unplaced_statement};
 ghost use Rattle.tt_sql.specs.StatementTrees.{statement_tree};
 ghost use Rattle.tt_sql.specs.QueryMarks.{query_marks};
 ghost use Rattle.tt_sql.specs.QueryGiven.{IsGivenQuery};
@@ -58,4 +63,28 @@ pub fn texts_have_one_statement()
     ensures fault { (text : List ℕ) (tokens : List Token) (at : ℕ) → tokens_of text ≡ Ok tokens
         → HasFaultAt most_levels (length text) (lexemes text tokens) at → statement_of text ≡ Err at }
     ensures no_tokens { (text : List ℕ) (fault : LexFault) → tokens_of text ≡ Err fault → statement_of text ≡ Err (fault_place fault) }
+{}
+
+/// What the derivation of a statement notes are the marks of a tree that the grammar gives: for tokens as a lexer
+/// makes them, and so for the tokens of a text.
+pub fn each_statement_has_a_tree()
+    ensures tokens { (levels : ℕ) (m : List Mark) (ts : List Lexeme) → AreLexemes ts → IsStatement levels m ts
+        → (s : Statement) × (statement_marks s ≡ m) × IsWrittenStatement levels s }
+    ensures given { (levels : ℕ) (s : Statement) → IsWrittenStatement levels s → IsGivenStatement s }
+    ensures text { (text : List ℕ) (tokens : List Token) → tokens_of text ≡ Ok tokens → AreLexemes (lexemes text tokens) }
+{}
+
+/// Each text is the text of a statement or has a fault, and `statement_of` says which.
+pub fn each_text_has_a_statement_or_a_fault()
+    ensures one { (text : List ℕ) → ((s : Statement) × IsTextOf text s) ⊎ ((at : ℕ) × HasSyntaxFault text at) }
+    ensures statement { (text : List ℕ) (s : Statement) → (statement_of text ≡ Ok s) ↔ IsTextOf text s }
+    ensures fault { (text : List ℕ) (at : ℕ) → (statement_of text ≡ Err at) ↔ HasSyntaxFault text at }
+{}
+
+/// A statement without its places notes the same marks without their places. So two statements whose marks are the
+/// same but for places are the same but for places.
+pub fn places_are_apart()
+    ensures marks { (levels : ℕ) (s : Statement) → IsWrittenStatement levels s → statement_marks (unplaced_statement s) ≡ unplaced (statement_marks s) }
+    ensures alike { (i j : ℕ) (s t : Statement) → IsWrittenStatement i s → IsWrittenStatement j t
+        → unplaced (statement_marks s) ≡ unplaced (statement_marks t) → unplaced_statement s ≡ unplaced_statement t }
 {}

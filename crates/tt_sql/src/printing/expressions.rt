@@ -3,11 +3,11 @@
 
 ghost use Rattle.std.specs.Prelude.{◌≡◌, ◌++◌, OnOk};
 ghost use Rattle.tt_sql.specs.Words.{spaced};
-ghost use Rattle.tt_sql.specs.ExpressionWords.{expr_words, addend_words, term_words, factor_words};
+ghost use Rattle.tt_sql.specs.ExpressionWords.{expr_words, addend_words, term_words, factor_words, is_zero_factor};
 
-use crate::printing::words::{write_column_name, write_literal, write_word};
+use crate::printing::words::{write_column_name, write_if, write_literal, write_word};
 use std::alloc::AllocError;
-use tt_value::{Addend, Expr, Factor, Sign, Term};
+use tt_value::{Addend, Expr, Factor, Sign, Term, Value};
 
 #[cycle(expressions)]
 pub fn write_expr(expr: &Expr, out: &mut Vec<u8>) -> Result<(), AllocError>
@@ -57,7 +57,20 @@ fn write_factor(factor: &Factor, out: &mut Vec<u8>) -> Result<(), AllocError>
         }
         Factor::Negated(_, factor) => {
             write_word(b"-", out)?;
+            write_if(is_zero(factor.get()), b"-", out)?;
             write_factor(factor.get(), out)
         }
+    }
+}
+
+fn is_zero(factor: &Factor) -> bool
+    ensures zero { result ≡ is_zero_factor factor.now }
+{
+    match factor {
+        Factor::Literal(literal) => match literal.value {
+            Value::Int(number) => number == 0,
+            _ => false,
+        },
+        _ => false,
     }
 }
