@@ -1,0 +1,9 @@
+use Rattle.tt_parse.proofs.Steps.{passes_both, stops_first}
+use Rattle.tt_parse.proofs.Exits.{exits, within}
+use Rattle.tt_parse.proofs.statement.rollback_of.Goals as goal
+
+pub returns-in_err-rest : goal.returns-in_err-rest
+returns-in_err-rest c = exits _ _ _ _ _ _ c.from_residual.result c.from_residual.ensures.1 (within (λ at f. stops_first f) _ c.in_err-rest.ensures)
+
+pub returns : goal.returns
+returns c = passes_both c.in_ok-rest.ensures c.past.ensures

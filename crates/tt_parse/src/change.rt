@@ -1,0 +1,243 @@
+//! Readers of statements that change rows.
+
+ghost use Rattle.std.specs.Prelude.{◌≤◌, [], ◌∷◌, ◌++◌, length, map, IfOk, ⊤};
+ghost use Rattle.tt_sql.specs.ChangeMarks.{copy_marks, delete_marks, insert_marks, insert_source_marks, names_marks, set_marks, tuple_marks, update_marks};
+ghost use Rattle.tt_sql.specs.Marks.{listed_marks, literal_marks, maybe_marks, name_marks};
+ghost use Rattle.tt_sql.specs.QueryGiven.{IsListed, WhenThere};
+ghost use Rattle.tt_sql.specs.StatementGiven.{IsGivenDml, IsGivenInsertSource, IsGivenSet, IsGivenTuple};
+ghost use Rattle.tt_sql.specs.declared.change.Dml.TheVariants as dml;
+ghost use Rattle.tt_value.specs.RowText.{IsPrintableValue};
+ghost use Rattle.tt_sql.specs.Parts.{brackets, listed, maybe, name as name_part, one, way, ◌▸◌, ◌∣◌};
+ghost use Rattle.tt_sql.specs.Read.{read_delete, read_insert, read_query, read_set, read_update};
+ghost use Rattle.tt_sql.specs.TokenKinds.{VALUES};
+ghost use Rattle.tt_sql.specs.Written.{copy, literal as literal_part, tuple};
+ghost use Rattle.tt_parse.specs.Reading.{IsKnown, Reads};
+
+use crate::error::ParseError;
+use crate::expression::expr_of;
+use crate::fixed::{after, place_of};
+use crate::kind::LexemeKind;
+use crate::literal::literal_of;
+use crate::name::{name_of, table_of};
+use crate::predicate::filter_of;
+use crate::query::query_of;
+use crate::quoted::quoted_of;
+use crate::rest::Rest;
+use sqlite_items::Items;
+use std::alloc::Global;
+use tt_sql::{Copy, Delete, Insert, InsertSource, Literal, Name, Set, Tuple, Update};
+
+/// The names in a list of columns.
+fn names_of<'a>(alloc: Global, rest: Rest<'a>) -> Result<(Items<Name>, Rest<'a>), ParseError>
+    requires { IsKnown rest }
+    ensures reads { Reads (λ x. names_marks x.0) (λ x. x.1) (listed name_part) rest.entry result }
+    ensures given { IfOk result (λ x. IsListed (λ n. ⊤) x.0) }
+{
+    let (first, mut rest) = name_of(alloc, rest)?;
+    let mut names = Items::new(alloc);
+    names.push(first)?;
+    while let Some(behind) = rest.word(LexemeKind::Comma) {
+        let (next, behind) = name_of(alloc, behind)?;
+        names.push(next)?;
+        rest = behind;
+    }
+    Ok((names, rest))
+}
+
+/// The list of columns of an INSERT, if it stands here.
+fn optional_names<'a>(
+    alloc: Global,
+    rest: Rest<'a>,
+) -> Result<(Option<Items<Name>>, Rest<'a>), ParseError>
+    requires { IsKnown rest }
+    ensures reads { Reads (λ x. maybe_marks names_marks x.0) (λ x. x.1) (maybe (brackets (listed name_part))) rest.entry result }
+    ensures given { IfOk result (λ x. WhenThere (λ names. IsListed (λ n. ⊤) names) x.0) }
+{
+    let Some(rest) = rest.word(LexemeKind::Open) else {
+        return Ok((None, rest));
+    };
+    let (names, rest) = names_of(alloc, rest)?;
+    let rest = after(LexemeKind::Close, rest)?;
+    Ok((Some(names), rest))
+}
+
+/// The literals of a tuple.
+pub fn literals_of<'a>(
+    alloc: Global,
+    rest: Rest<'a>,
+) -> Result<(Items<Literal>, Rest<'a>), ParseError>
+    requires { IsKnown rest }
+    ensures reads { Reads (λ x. listed_marks (map literal_marks x.0)) (λ x. x.1) (listed literal_part) rest.entry result }
+    ensures given { IfOk result (λ x. IsListed (λ l. IsPrintableValue l.value) x.0) }
+{
+    let (first, mut rest) = literal_of(alloc, rest)?;
+    let mut literals = Items::new(alloc);
+    literals.push(first)?;
+    while let Some(behind) = rest.word(LexemeKind::Comma) {
+        let (next, behind) = literal_of(alloc, behind)?;
+        literals.push(next)?;
+        rest = behind;
+    }
+    Ok((literals, rest))
+}
+
+/// The values of a row, in brackets.
+fn tuple_of<'a>(alloc: Global, rest: Rest<'a>) -> Result<(Tuple, Rest<'a>), ParseError>
+    requires { IsKnown rest }
+    ensures reads { Reads (λ x. tuple_marks x.0) (λ x. x.1) tuple rest.entry result }
+    ensures given { IfOk result (λ x. IsGivenTuple x.0) }
+{
+    let (place, rest) = place_of(LexemeKind::Open, rest)?;
+    let (values, rest) = literals_of(alloc, rest)?;
+    let rest = after(LexemeKind::Close, rest)?;
+    Ok((Tuple { place, values }, rest))
+}
+
+/// The rows of an INSERT.
+fn tuples_of<'a>(alloc: Global, rest: Rest<'a>) -> Result<(Items<Tuple>, Rest<'a>), ParseError>
+    requires { IsKnown rest }
+    ensures reads { Reads (λ x. listed_marks (map tuple_marks x.0)) (λ x. x.1) (listed tuple) rest.entry result }
+    ensures given { IfOk result (λ x. IsListed IsGivenTuple x.0) }
+{
+    let (first, mut rest) = tuple_of(alloc, rest)?;
+    let mut tuples = Items::new(alloc);
+    tuples.push(first)?;
+    while let Some(behind) = rest.word(LexemeKind::Comma) {
+        let (next, behind) = tuple_of(alloc, behind)?;
+        tuples.push(next)?;
+        rest = behind;
+    }
+    Ok((tuples, rest))
+}
+
+/// COPY INTO.
+pub fn copy_of<'a>(alloc: Global, rest: Rest<'a>) -> Result<(Copy, Rest<'a>), ParseError>
+    requires { IsKnown rest }
+    ensures reads { Reads (λ x. copy_marks x.0) (λ x. x.1) copy rest.entry result }
+    ensures given { IfOk result (λ x. IsGivenDml (dml.Copy x.0)) }
+{
+    let rest = after(LexemeKind::Copy, rest)?;
+    let rest = after(LexemeKind::Into, rest)?;
+    let (table, rest) = table_of(alloc, rest)?;
+    let rest = after(LexemeKind::From, rest)?;
+    let (file, rest) = quoted_of(alloc, rest)?;
+    Ok((Copy { table, file }, rest))
+}
+
+/// A column and its new value.
+fn set_of<'a>(alloc: Global, levels: u32, rest: Rest<'a>) -> Result<(Set, Rest<'a>), ParseError>
+    requires { IsKnown rest }
+    ensures reads { Reads (λ x. set_marks x.0) (λ x. x.1) (read_set levels) rest.entry result }
+    ensures given { IfOk result (λ x. IsGivenSet x.0) }
+{
+    let (column, rest) = name_of(alloc, rest)?;
+    let rest = after(LexemeKind::Equal, rest)?;
+    let (value, rest) = expr_of(alloc, levels, rest)?;
+    Ok((Set { column, value }, rest))
+}
+
+/// The columns of an UPDATE and their new values.
+fn sets_of<'a>(
+    alloc: Global,
+    levels: u32,
+    rest: Rest<'a>,
+) -> Result<(Items<Set>, Rest<'a>), ParseError>
+    requires { IsKnown rest }
+    ensures reads { Reads (λ x. listed_marks (map set_marks x.0)) (λ x. x.1) (listed (read_set levels)) rest.entry result }
+    ensures given { IfOk result (λ x. IsListed IsGivenSet x.0) }
+{
+    let (first, mut rest) = set_of(alloc, levels, rest)?;
+    let mut sets = Items::new(alloc);
+    sets.push(first)?;
+    while let Some(behind) = rest.word(LexemeKind::Comma) {
+        let (next, behind) = set_of(alloc, levels, behind)?;
+        sets.push(next)?;
+        rest = behind;
+    }
+    Ok((sets, rest))
+}
+
+/// INSERT.
+pub fn insert_of<'a>(
+    alloc: Global,
+    levels: u32,
+    rest: Rest<'a>,
+) -> Result<(Insert, Rest<'a>), ParseError>
+    requires { IsKnown rest }
+    ensures reads { Reads (λ x. insert_marks x.0) (λ x. x.1) (read_insert levels) rest.entry result }
+    ensures given { IfOk result (λ x. IsGivenDml (dml.Insert x.0)) }
+{
+    let rest = after(LexemeKind::Insert, rest)?;
+    let rest = after(LexemeKind::Into, rest)?;
+    let (table, rest) = table_of(alloc, rest)?;
+    let (columns, rest) = optional_names(alloc, rest)?;
+    let (source, rest) = insert_source_of(alloc, levels, rest)?;
+    Ok((
+        Insert {
+            table,
+            columns,
+            source,
+        },
+        rest,
+    ))
+}
+
+/// Where the rows of an INSERT come from.
+fn insert_source_of<'a>(
+    alloc: Global,
+    levels: u32,
+    rest: Rest<'a>,
+) -> Result<(InsertSource, Rest<'a>), ParseError>
+    requires { IsKnown rest }
+    ensures reads { Reads (λ x. insert_source_marks x.0) (λ x. x.1) (one VALUES ▸ listed tuple ▸ way 0 ∣ read_query levels ▸ way 1) rest.entry result }
+    ensures given { IfOk result (λ x. IsGivenInsertSource x.0) }
+{
+    if let Some(rest) = rest.word(LexemeKind::Values) {
+        let (tuples, rest) = tuples_of(alloc, rest)?;
+        return Ok((InsertSource::Values(tuples), rest));
+    }
+    let (query, rest) = query_of(alloc, levels, rest)?;
+    Ok((InsertSource::Query(query), rest))
+}
+
+/// UPDATE.
+pub fn update_of<'a>(
+    alloc: Global,
+    levels: u32,
+    rest: Rest<'a>,
+) -> Result<(Update, Rest<'a>), ParseError>
+    requires { IsKnown rest }
+    ensures reads { Reads (λ x. update_marks x.0) (λ x. x.1) (read_update levels) rest.entry result }
+    ensures given { IfOk result (λ x. IsGivenDml (dml.Update x.0)) }
+{
+    let rest = after(LexemeKind::Update, rest)?;
+    let (table, rest) = table_of(alloc, rest)?;
+    let rest = after(LexemeKind::Set, rest)?;
+    let (sets, rest) = sets_of(alloc, levels, rest)?;
+    let (filter, rest) = filter_of(alloc, levels, rest)?;
+    Ok((
+        Update {
+            table,
+            sets,
+            filter,
+        },
+        rest,
+    ))
+}
+
+/// DELETE.
+pub fn delete_of<'a>(
+    alloc: Global,
+    levels: u32,
+    rest: Rest<'a>,
+) -> Result<(Delete, Rest<'a>), ParseError>
+    requires { IsKnown rest }
+    ensures reads { Reads (λ x. delete_marks x.0) (λ x. x.1) (read_delete levels) rest.entry result }
+    ensures given { IfOk result (λ x. IsGivenDml (dml.Delete x.0)) }
+{
+    let rest = after(LexemeKind::Delete, rest)?;
+    let rest = after(LexemeKind::From, rest)?;
+    let (table, rest) = table_of(alloc, rest)?;
+    let (filter, rest) = filter_of(alloc, levels, rest)?;
+    Ok((Delete { table, filter }, rest))
+}

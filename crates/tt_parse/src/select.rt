@@ -1,0 +1,125 @@
+//! Readers of statements that begin with SELECT, and of EXPLAIN.
+
+ghost use Rattle.std.specs.Prelude.{◌≡◌, false, [], ◌∷◌, ◌++◌, IfOk, MatchOption};
+ghost use Rattle.tt_sql.specs.Grammar.{Way};
+ghost use Rattle.tt_sql.specs.Marks.{table_marks};
+ghost use Rattle.tt_sql.specs.Parts.{one, quoted_name, ◌▸◌};
+ghost use Rattle.tt_sql.specs.QueryGiven.{IsAloneTable, IsGivenQuery, WhenThere};
+ghost use Rattle.tt_sql.specs.QueryMarks.{query_marks};
+ghost use Rattle.tt_sql.specs.Read.{read_query, read_select};
+ghost use Rattle.tt_sql.specs.SelectLaws.{begins_with};
+ghost use Rattle.tt_sql.specs.StatementGiven.{IsGivenStatement};
+ghost use Rattle.tt_sql.specs.StatementMarks.{statement_marks};
+ghost use Rattle.tt_sql.specs.TokenKinds.{EXPLAIN};
+ghost use Rattle.tt_parse.specs.Reading.{IsKnown, Reads, seen};
+ghost use Rattle.tt_parse.specs.Selects.{Follow, ReadsIf, depth_kinds, view_kinds};
+
+use crate::error::ParseError;
+use crate::fixed::{after, either_word};
+use crate::kind::LexemeKind;
+use crate::name::upper_text;
+use crate::query::query_of;
+use crate::quoted::optional_quoted;
+use crate::rest::Rest;
+use std::alloc::Global;
+use tt_sql::{Name, Query, Statement, TableName};
+
+/// What stands behind the words of the view of storage up to its dot, if they stand here.
+fn view_words(rest: Rest<'_>) -> Option<Rest<'_>>
+    requires { IsKnown rest }
+    ensures { MatchOption result (begins_with view_kinds (seen rest.entry) ≡ false) (λ behind. Follow view_kinds rest.entry behind) }
+{
+    let rest = rest.word(LexemeKind::Select)?;
+    let rest = rest.word(LexemeKind::Star)?;
+    let rest = rest.word(LexemeKind::From)?;
+    let rest = rest.word(LexemeKind::InformationSchema)?;
+    rest.word(LexemeKind::Dot)
+}
+
+/// What stands behind the words of the depth of a table up to its bracket, if they stand here.
+fn depth_words(rest: Rest<'_>) -> Option<Rest<'_>>
+    requires { IsKnown rest }
+    ensures { MatchOption result (begins_with depth_kinds (seen rest.entry) ≡ false) (λ behind. Follow depth_kinds rest.entry behind) }
+{
+    let rest = rest.word(LexemeKind::Select)?;
+    let rest = rest.word(LexemeKind::SystemClusteringDepth)?;
+    rest.word(LexemeKind::Open)
+}
+
+/// What stands behind the view of storage, if it stands here.
+fn view_of(rest: Rest<'_>) -> Result<Option<Rest<'_>>, ParseError>
+    requires { IsKnown rest }
+    ensures { ReadsIf view_kinds (λ s. Way 17 ∷ []) (λ s. s) rest.entry result }
+{
+    let Some(rest) = view_words(rest) else {
+        return Ok(None);
+    };
+    let rest = after(LexemeKind::TableStorageMetrics, rest)?;
+    Ok(Some(rest))
+}
+
+/// The table whose name a quoted text is.
+fn quoted_table_of<'a>(alloc: Global, rest: Rest<'a>) -> Result<(TableName, Rest<'a>), ParseError>
+    requires { IsKnown rest }
+    ensures reads { Reads (λ x. table_marks x.0) (λ x. x.1) quoted_name rest.entry result }
+    ensures given { IfOk result (λ x. IsAloneTable x.0) }
+{
+    let Some(_) = either_word(LexemeKind::NameText, LexemeKind::UnitText, rest) else {
+        return Err(rest.fault());
+    };
+    let Some((quoted, behind)) = optional_quoted(alloc, rest)? else {
+        unreachable!();
+    };
+    let text = upper_text(alloc, quoted.text.as_str().as_bytes())?;
+    let place = quoted.place;
+    let name = Name { text, place };
+    Ok((TableName { schema: None, name }, behind))
+}
+
+/// The table whose depth is asked for, if such a statement stands here.
+fn depth_of<'a>(alloc: Global, rest: Rest<'a>) -> Result<Option<(TableName, Rest<'a>)>, ParseError>
+    requires { IsKnown rest }
+    ensures reads { ReadsIf depth_kinds (λ x. table_marks x.0 ++ Way 18 ∷ []) (λ x. x.1) rest.entry result }
+    ensures given { IfOk result (λ found. WhenThere (λ x. IsAloneTable x.0) found) }
+{
+    let Some(rest) = depth_words(rest) else {
+        return Ok(None);
+    };
+    let (table, rest) = quoted_table_of(alloc, rest)?;
+    let rest = after(LexemeKind::Close, rest)?;
+    Ok(Some((table, rest)))
+}
+
+/// A statement that begins with SELECT: the view of storage, the depth of a table, or a query.
+pub fn select_of<'a>(
+    alloc: Global,
+    levels: u32,
+    rest: Rest<'a>,
+) -> Result<(Statement, Rest<'a>), ParseError>
+    requires { IsKnown rest }
+    ensures reads { Reads (λ x. statement_marks x.0) (λ x. x.1) (read_select levels) rest.entry result }
+    ensures given { IfOk result (λ x. IsGivenStatement x.0) }
+{
+    if let Some(rest) = view_of(rest)? {
+        return Ok((Statement::Metrics, rest));
+    }
+    if let Some((table, rest)) = depth_of(alloc, rest)? {
+        return Ok((Statement::Depth(table), rest));
+    }
+    let (query, rest) = query_of(alloc, levels, rest)?;
+    Ok((Statement::Query(query), rest))
+}
+
+/// EXPLAIN: the query that is explained.
+pub fn explain_of<'a>(
+    alloc: Global,
+    levels: u32,
+    rest: Rest<'a>,
+) -> Result<(Query, Rest<'a>), ParseError>
+    requires { IsKnown rest }
+    ensures reads { Reads (λ x. query_marks x.0) (λ x. x.1) (one EXPLAIN ▸ read_query levels) rest.entry result }
+    ensures given { IfOk result (λ x. IsGivenQuery x.0) }
+{
+    let rest = after(LexemeKind::Explain, rest)?;
+    query_of(alloc, levels, rest)
+}

@@ -1,0 +1,84 @@
+//! The reader of CALL SYSTEM$WAIT.
+
+ghost use Rattle.std.specs.Prelude.{◌≡◌, true, false, [], ◌∷◌, bytes_eq, MatchOption};
+ghost use Rattle.std.specs.List.{list_any};
+ghost use Rattle.tt_sql.specs.Grammar.{Note, Way};
+ghost use Rattle.tt_sql.specs.Parts.{as_unit, one, way, ◌▸◌, ◌∣◌};
+ghost use Rattle.tt_sql.specs.StatementMarks.{unit_number, wait_marks};
+ghost use Rattle.tt_sql.specs.TokenKinds.{COMMA, UNIT_TEXT, unit_words, upper};
+ghost use Rattle.tt_sql.specs.Written.{wait};
+ghost use Rattle.tt_parse.specs.Reading.{IsKnown, Reads};
+ghost use Rattle.tt_parse.specs.Tables.{IsUnit};
+
+use crate::error::ParseError;
+use crate::fixed::after;
+use crate::kind::LexemeKind;
+use crate::name::short_number_of;
+use crate::quoted::optional_quoted;
+use crate::rest::Rest;
+use std::alloc::Global;
+use tt_sql::{TimeUnit, Wait};
+
+/// CALL SYSTEM$WAIT. Where no unit is written, seconds are meant.
+pub fn wait_of<'a>(alloc: Global, rest: Rest<'a>) -> Result<(Wait, Rest<'a>), ParseError>
+    requires { IsKnown rest }
+    ensures { Reads (λ x. wait_marks x.0) (λ x. x.1) wait rest.entry result }
+{
+    let rest = after(LexemeKind::Call, rest)?;
+    let rest = after(LexemeKind::SystemWait, rest)?;
+    let rest = after(LexemeKind::Open, rest)?;
+    let (amount, rest) = short_number_of(rest)?;
+    let (unit, rest) = optional_unit(alloc, rest)?;
+    let rest = after(LexemeKind::Close, rest)?;
+    Ok((Wait { amount, unit }, rest))
+}
+
+/// The unit behind a comma, if one stands here, or else seconds.
+fn optional_unit<'a>(alloc: Global, rest: Rest<'a>) -> Result<(TimeUnit, Rest<'a>), ParseError>
+    requires { IsKnown rest }
+    ensures { Reads (λ x. Way (unit_number x.0) ∷ []) (λ x. x.1) (one COMMA ▸ one UNIT_TEXT ▸ Note as_unit ∣ way 3) rest.entry result }
+{
+    let Some(rest) = rest.word(LexemeKind::Comma) else {
+        return Ok((TimeUnit::Seconds, rest));
+    };
+    unit_text_of(alloc, rest)
+}
+
+/// The unit whose quoted name has to stand here.
+fn unit_text_of<'a>(alloc: Global, rest: Rest<'a>) -> Result<(TimeUnit, Rest<'a>), ParseError>
+    requires { IsKnown rest }
+    ensures { Reads (λ x. Way (unit_number x.0) ∷ []) (λ x. x.1) (one UNIT_TEXT ▸ Note as_unit) rest.entry result }
+{
+    let Some(_) = rest.word(LexemeKind::UnitText) else {
+        return Err(rest.fault());
+    };
+    let Some((quoted, behind)) = optional_quoted(alloc, rest)? else {
+        unreachable!();
+    };
+    match unit_of(quoted.text.as_str().as_bytes()) {
+        Some(unit) => Ok((unit, behind)),
+        None => unreachable!(),
+    }
+}
+
+/// The unit of time that this word names, in any case, if it does.
+pub fn unit_of(word: &[u8]) -> Option<TimeUnit>
+    ensures { MatchOption result (list_any (bytes_eq (upper word.now)) unit_words ≡ false) (IsUnit word.now) }
+{
+    if word.eq_ignore_ascii_case(b"DAYS") {
+        return Some(TimeUnit::Days);
+    }
+    if word.eq_ignore_ascii_case(b"HOURS") {
+        return Some(TimeUnit::Hours);
+    }
+    if word.eq_ignore_ascii_case(b"MINUTES") {
+        return Some(TimeUnit::Minutes);
+    }
+    if word.eq_ignore_ascii_case(b"SECONDS") {
+        return Some(TimeUnit::Seconds);
+    }
+    if word.eq_ignore_ascii_case(b"MILLISECONDS") {
+        return Some(TimeUnit::Milliseconds);
+    }
+    None
+}
