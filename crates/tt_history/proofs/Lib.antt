@@ -1,3 +1,1 @@
-pub mod Bytes
-pub mod Lines
-pub mod Parts
+pub mod Places

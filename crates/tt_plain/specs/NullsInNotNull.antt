@@ -1,5 +1,5 @@
 -- NullInNotNull: a written NULL for a column that takes none, or such a column left out.
-use Rattle.std.specs.Prelude.{ℕ, Bool, true, false, ◌&&◌, ◌||◌, not, if◌then◌else◌, List, [], ◌∷◌, ◌++◌, Option, Some, None}
+use Rattle.std.specs.Prelude.{ℕ, Bool, false, ◌&&◌, not, if◌then◌else◌, List, [], ◌∷◌, ◌++◌, Option, Some, None}
 use Rattle.std.specs.List.{list_any}
 use Rattle.tt_value.specs.PredicateMeaning.{is_null}
 use Rattle.tt_value.specs.declared.value.Column.{Column}

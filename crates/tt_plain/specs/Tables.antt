@@ -1,5 +1,5 @@
 -- The tables that a statement reads or changes, in the order in which it names them.
-use Rattle.std.specs.Prelude.{◌≡◌, ⊤, ℕ, List, [], ◌∷◌, ◌++◌, map, slice_get, Option, Some, None}
+use Rattle.std.specs.Prelude.{◌≡◌, ⊤, ℕ, List, [], ◌∷◌, slice_get, Option, Some, None}
 use Rattle.tt_value.specs.declared.value.Schema.{Schema}
 use Rattle.tt_value.specs.declared.name.TableName.{TableName}
 use Rattle.tt_sql.specs.Scopes.{query_tables}

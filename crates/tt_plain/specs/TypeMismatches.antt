@@ -17,7 +17,6 @@ use Rattle.tt_value.specs.declared.predicate.Unit.{Unit}
 use Rattle.tt_value.specs.declared.predicate.Unit.TheFolds.{fold-Predicate, fold-Conjunction, fold-Unit}
 use Rattle.tt_value.specs.declared.predicate.Unit.TheOpen.{Predicate-F, Conjunction-F, Unit-F}
 use Rattle.tt_value.specs.declared.expression.Expr.{Expr}
-use Rattle.tt_value.specs.declared.expression.Factor.TheOpen.{Factor-F, Expr-F, Term-F, Addend-F}
 use Rattle.tt_value.specs.Scope.{Scope, column_kind}
 use Rattle.tt_value.specs.PredicateMeaning.{operand_kind}
 use Rattle.tt_sql.specs.declared.query.Query.{Query}
@@ -27,7 +26,6 @@ use Rattle.tt_sql.specs.declared.query.Item.{Item}
 use Rattle.tt_sql.specs.declared.query.Item.TheVariants as item
 use Rattle.tt_sql.specs.declared.change.Dml.{Dml}
 use Rattle.tt_sql.specs.declared.change.Dml.TheVariants as dml
-use Rattle.tt_sql.specs.declared.change.Insert.{Insert}
 use Rattle.tt_sql.specs.declared.change.InsertSource.{InsertSource}
 use Rattle.tt_sql.specs.declared.change.InsertSource.TheVariants as source
 use Rattle.tt_sql.specs.declared.change.Tuple.{Tuple}
@@ -35,7 +33,7 @@ use Rattle.tt_sql.specs.declared.change.Set.{Set}
 use Rattle.tt_sql.specs.declared.change.Update.{Update}
 use Rattle.tt_sql.specs.declared.statement.Statement.{Statement}
 use Rattle.tt_sql.specs.declared.statement.Statement.TheVariants as statement
-use Rattle.tt_plain.specs.Places.{each, each_at, if_there, column_begin, operand_begin}
+use Rattle.tt_plain.specs.Places.{each, each_at, if_there, column_begin}
 use Rattle.tt_sql.specs.QueryMeaning.{is_item_of, has_aggregate}
 use Rattle.tt_sql.specs.Scopes.{query_scope, target_scope}
 use Rattle.tt_plain.specs.Columns.{column_named, target_column}

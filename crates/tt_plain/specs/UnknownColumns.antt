@@ -1,6 +1,6 @@
 -- UnknownColumn: a name that is no column there, or a position that is no item.
-use Rattle.std.specs.Prelude.{ℕ, Bool, true, false, ◌&&◌, nat_le, if◌then◌else◌, List, [], ◌∷◌, ◌++◌, length, drop, Option, Some, None, is_some}
-use Rattle.std.specs.List.{list_any, position}
+use Rattle.std.specs.Prelude.{ℕ, Bool, ◌&&◌, nat_le, if◌then◌else◌, List, [], ◌∷◌, ◌++◌, length, drop, is_some}
+use Rattle.std.specs.List.{list_any}
 use Rattle.std.specs.Str.{bytes_eq}
 use Rattle.tt_value.specs.declared.value.Schema.{Schema}
 use Rattle.tt_value.specs.declared.name.Name.{Name}
@@ -16,7 +16,7 @@ use Rattle.tt_value.specs.declared.predicate.Unit.TheOpen.{Predicate-F, Conjunct
 use Rattle.tt_value.specs.declared.expression.Expr.{Expr}
 use Rattle.tt_value.specs.declared.expression.Term.{Term}
 use Rattle.tt_value.specs.declared.expression.Factor.{Factor}
-use Rattle.tt_value.specs.declared.expression.Factor.TheOpen.{Factor-F, Expr-F, Term-F, Addend-F}
+use Rattle.tt_value.specs.declared.expression.Factor.TheOpen.{Factor-F, Expr-F, Term-F}
 use Rattle.tt_value.specs.Scope.{Scope, column_in}
 use Rattle.tt_sql.specs.declared.query.Query.{Query}
 use Rattle.tt_sql.specs.declared.query.Selection.{Selection}

@@ -1,2 +1,7 @@
-//! The rules of the plain store, as definitions.
+//! The plain store: its types, and its rules as definitions.
 #![tactic(auto)]
+
+pub mod laws;
+pub mod plain;
+
+pub use plain::{Plain, PlainOpen, PlainSession, PlainTable, Version};

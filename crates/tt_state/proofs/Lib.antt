@@ -1,1 +1,3 @@
+pub mod Commits
+pub mod Lookups
 pub mod Turns

@@ -1,16 +1,16 @@
 -- What contracts see of a catalog, what holds of every one, and what a call that makes an entry does to it.
 use Rattle.std.specs.Prelude.{◌≡◌, ℕ, ◌≤◌, List, [], ◌∷◌, ◌++◌, Option, Some}
-use Rattle.tt_history.specs.declared.script.Program.{Program}
+use Rattle.tt_script.specs.declared.script.Script.{Script}
+use Rattle.tt_script.specs.Program.{IsProgram}
 use Rattle.tt_history.specs.declared.history.Entry.{Entry}
-use Rattle.tt_history.specs.declared.plain.Plain.{Plain}
 use Rattle.tt_history.specs.declared.reply.Reply.{Reply}
-use Rattle.tt_history.specs.Replay.{step_of, replay_of}
-use Rattle.tt_history.specs.Limits.{IsWithinLimits}
-use Rattle.tt_history.specs.SoundStore.{owed, IsSound}
+use Rattle.tt_plain.specs.declared.plain.Plain.{Plain}
+use Rattle.tt_plain.specs.Replay.{step_of, replay_of}
+use Rattle.tt_plain.specs.SoundStore.{owed, IsSound}
 
 -- the program and the partition rows that the catalog was made with, its history, and its tables and sessions as a plain store
 pub record Book : Type 0 where
-  pub program : Program
+  pub program : Script
   pub cap : ℕ
   pub history : List Entry
   pub store : Plain
@@ -21,7 +21,7 @@ pub record StandsFor (book : Book) (room : ℕ) : Type 0 where
   pub replies : List (Option Reply)
   pub legal : replay_of book.program book.history ≡ Some (book.store, replies)
   pub sound : IsSound book.program book.store
-  pub limits : IsWithinLimits book.program
+  pub limits : IsProgram book.program
   pub roomy : owed book.program.sessions book.store.sessions ≤ room
 
 -- A call makes one entry: the history is longer by it, and store and reply are those of the plain store's step.

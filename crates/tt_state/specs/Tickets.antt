@@ -2,20 +2,26 @@
 use Rattle.std.specs.Prelude.{◌≡◌, ℕ, List, [], ◌∷◌, map, length, All, Option, Some, None, ⊤}
 use Rattle.std.specs.Option.{option_map}
 use Rattle.tt_value.specs.declared.value.Row.{Row}
-use Rattle.tt_history.specs.declared.sql.Statement.{Statement}
-use Rattle.tt_history.specs.declared.sql.Statement.TheVariants as statement
-use Rattle.tt_history.specs.declared.plain.PlainOpen.{PlainOpen}
-use Rattle.tt_history.specs.declared.plain.PlainTable.{PlainTable}
-use Rattle.tt_history.specs.Store.{open_statement, live_table, current_rows}
+use Rattle.tt_value.specs.RowText.{IsPrintable}
+use Rattle.tt_sql.specs.declared.change.Insert.{Insert}
+use Rattle.tt_sql.specs.declared.change.Dml.TheVariants as dml
+use Rattle.tt_sql.specs.declared.query.Query.{Query}
+use Rattle.tt_sql.specs.declared.statement.Statement.{Statement}
+use Rattle.tt_sql.specs.declared.statement.Statement.TheVariants as statement
+use Rattle.tt_plain.specs.declared.plain.PlainOpen.{PlainOpen}
+use Rattle.tt_plain.specs.declared.plain.PlainTable.{PlainTable}
+use Rattle.tt_plain.specs.Store.{open_statement, table_numbered, current_rows}
+use Rattle.tt_plain.specs.NamedTables.{live_at}
+use Rattle.tt_plain.specs.AcceptedInserts.{AddsItsTuples}
+use Rattle.tt_plain.specs.InsertRows.{added_rows}
 use Rattle.tt_state.specs.declared.ticket.Ticket.{Ticket}
 use Rattle.tt_state.specs.declared.ticket.Seen.{Seen}
 use Rattle.tt_state.specs.declared.ticket.Built.{Built}
 use Rattle.tt_state.specs.declared.ticket.Started.{Started}
 use Rattle.tt_state.specs.declared.ticket.Started.TheVariants as started
-use Rattle.tt_value.specs.RowText.{IsPrintable}
-use Rattle.tt_history.specs.declared.sql.Query.{Query}
-use Rattle.tt_history.specs.declared.sql.Insert.{Insert}
 use Rattle.tt_state.specs.Book.{Book}
+
+-- ---- what a statement sees
 
 -- a table as a query reads it, and as an INSERT sees it
 abbrev pub read_table : PlainTable → Seen
@@ -26,9 +32,9 @@ written_table table = record { table = table.number; schema = table.schema; rows
 
 -- the tables that a statement reads and the one that it changes, with their schemas and rows
 abbrev pub SeesTables : List PlainTable → Statement → List Seen → Option Seen → Type 0
-SeesTables tables (statement.Create create) sources target = ⊥
-SeesTables tables (statement.Insert insert) sources target = (table : PlainTable) × (live_table tables insert.name ≡ Some table) × (sources ≡ []) × (target ≡ Some (written_table table))
-SeesTables tables (statement.Query query) sources target = (table : PlainTable) × (live_table tables query.name ≡ Some table) × (sources ≡ read_table table ∷ []) × (target ≡ None)
+SeesTables tables (statement.Dml (dml.Insert insert)) sources target = (table : PlainTable) × (live_at tables insert.table ≡ Some table) × (sources ≡ []) × (target ≡ Some (written_table table))
+SeesTables tables (statement.Query query) sources target = (table : PlainTable) × (live_at tables query.first.table ≡ Some table) × (sources ≡ read_table table ∷ []) × (target ≡ None)
+SeesTables tables _ sources target = ⊥
 
 -- a table's number with the rows that are seen of it
 abbrev pub seen_rows : Seen → ℕ × List Row
@@ -41,9 +47,25 @@ opened_with index sources target = record { index = index; sources = map seen_ro
 abbrev pub opened_by : Ticket → PlainOpen
 opened_by ticket = opened_with ticket.index ticket.sources.items ticket.target
 
--- the ticket is that of its session's open statement, which is this one
-abbrev pub IsTicketOf : Book → Ticket → Statement → Type 0
-IsTicketOf book ticket statement = open_statement book.program book.store ticket.session ticket.index ≡ Some (statement, opened_by ticket)
+-- ---- tickets
+
+-- a table that is seen has the schema of the one of its number
+abbrev pub HasItsSchema : List PlainTable → Seen → Type 0
+HasItsSchema tables seen = (table : PlainTable) × (table_numbered tables seen.table ≡ Some table) × (seen.schema ≡ table.schema)
+
+abbrev pub HaveTheirSchemas : List PlainTable → List Seen → Type 0
+HaveTheirSchemas tables [] = ⊤
+HaveTheirSchemas tables (seen ∷ sources) = HasItsSchema tables seen × HaveTheirSchemas tables sources
+
+abbrev pub TargetHasSchema : List PlainTable → Option Seen → Type 0
+TargetHasSchema tables None = ⊤
+TargetHasSchema tables (Some seen) = HasItsSchema tables seen
+
+-- the ticket is that of its session's open statement, which is this one, with the schemas of its tables
+pub record IsTicketOf (book : Book) (ticket : Ticket) (statement : Statement) : Type 0 where
+  pub opened : open_statement book.program book.store ticket.session ticket.index ≡ Some (statement, opened_by ticket)
+  pub sources : HaveTheirSchemas book.store.tables ticket.sources.items
+  pub target : TargetHasSchema book.store.tables ticket.target
 
 -- the ticket is that of an open query
 abbrev pub IsQueryTicket : Book → Ticket → Type 0
@@ -53,18 +75,23 @@ IsQueryTicket book ticket = (query : Query) × IsTicketOf book ticket (statement
 abbrev pub IsOpenTicket : Book → Ticket → Type 0
 IsOpenTicket book ticket = (statement : Statement) × IsTicketOf book ticket statement
 
--- what was built for an open INSERT: the rows of its tuples, and their number
+-- what was built for an open INSERT: the rows that it adds to its table, and their number
 pub record IsBuiltFor (book : Book) (ticket : Ticket) (built : Built) : Type 0 where
   pub insert : Insert
-  pub ticket_of : IsTicketOf book ticket (statement.Insert insert)
+  pub ticket_of : IsTicketOf book ticket (statement.Dml (dml.Insert insert))
   pub seen : Seen
   pub target : ticket.target ≡ Some seen
-  pub rows : built.rows.items ≡ insert.tuples
-  pub count : built.count ≡ length insert.tuples
-  pub printable : All IsPrintable insert.tuples
+  pub rows : added_rows seen.schema insert ≡ Some built.rows.items
+  pub count : built.count ≡ length built.rows.items
+  pub printable : All IsPrintable built.rows.items
+
+-- What an INSERT that has begun adds to the table that it sees: the rows of its tuples.
+abbrev pub AddsToTarget : Statement → Option Seen → Type 0
+AddsToTarget (statement.Dml (dml.Insert insert)) (Some seen) = AddsItsTuples seen.schema insert
+AddsToTarget _ _ = ⊤
 
 -- What a start gives, where it gives a ticket: that of the statement, with its tables as they are.
 abbrev pub GivesTicket : Book → Book → ℕ → ℕ → Statement → Started → Type 0
-GivesTicket old new session index statement (started.Ticket ticket) = (ticket.session ≡ session) × (ticket.index ≡ index) × SeesTables old.store.tables statement ticket.sources.items ticket.target × IsTicketOf new ticket statement
+GivesTicket old new session index statement (started.Ticket ticket) = (ticket.session ≡ session) × (ticket.index ≡ index) × SeesTables old.store.tables statement ticket.sources.items ticket.target × IsTicketOf new ticket statement × AddsToTarget statement ticket.target
 GivesTicket old new session index statement (started.Refused refusal) = ⊤
 GivesTicket old new session index statement started.Memory = ⊤

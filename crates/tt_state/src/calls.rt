@@ -1,23 +1,25 @@
-ghost use Rattle.std.specs.Prelude.{◌≡◌, true, Some, None, [], length, All, IfOk, IfErr, IsSome, IsOkAnd};
-ghost use Rattle.tt_value.specs.RowText.{IsPrintable};
-ghost use Rattle.tt_history.specs.Store.{next_statement, open_statement};
-ghost use Rattle.tt_history.specs.SelectRows.{answer_of};
-ghost use Rattle.tt_history.specs.StartEntry.{is_started};
-ghost use Rattle.tt_history.specs.DefineEntry.{is_definition};
-ghost use Rattle.tt_history.specs.StepLaws.{entry_at};
+ghost use Rattle.std.specs.Prelude.{◌≡◌, true, Some, Ok, Err, [], IfOk, IfErr};
+ghost use Rattle.tt_plain.specs.Statements.{is_started, is_definition};
+ghost use Rattle.tt_plain.specs.Store.{next_statement};
+ghost use Rattle.tt_plain.specs.SelectRows.{rows_read};
+ghost use Rattle.tt_plain.specs.StepLaws.{entry_at};
 ghost use Rattle.tt_history.specs.declared.history.Actor.TheVariants as actor;
 ghost use Rattle.tt_history.specs.declared.history.Told.{Told};
 ghost use Rattle.tt_history.specs.declared.history.Told.TheVariants as told;
 ghost use Rattle.tt_history.specs.declared.history.EntryKind.TheVariants as kind;
 ghost use Rattle.tt_history.specs.declared.reply.Reply.TheVariants as reply;
+ghost use Rattle.tt_history.specs.declared.reply.Refusal.TheVariants as refusal;
+ghost use Rattle.tt_state.specs.declared.ticket.Started.TheVariants as started;
 ghost use Rattle.tt_state.specs.Book.{MadeEntry};
 ghost use Rattle.tt_state.specs.Outcomes.{reply_to_start};
 ghost use Rattle.tt_state.specs.Tickets.{opened_by, IsOpenTicket, IsQueryTicket, IsBuiltFor, GivesTicket};
 
 use crate::catalog::Catalog;
+use crate::lookup::refusal_number;
 use crate::ticket::{Built, Started, Ticket};
 use std::alloc::Global;
-use tt_history::{Actor, Entry, EntryKind, Reply, Statement, Syntax, Told};
+use tt_history::{Actor, Entry, EntryKind, Refusal, Reply, Told};
+use tt_sql::{Statement, Syntax};
 use tt_value::Sequence;
 
 fn session_entry(moment: u64, session: u32, index: u32, kind: EntryKind) -> Entry
@@ -44,8 +46,8 @@ fn end_without_parts(alloc: Global) -> EntryKind
 /// Makes the Define entry of a session's next statement, which is a definition: it is carried out, or
 /// refused, or finds no memory.
 pub fn define(cat: &mut Catalog, session: u32, index: u32, statement: &Statement) -> Reply
-    requires next { next_statement cat.old.program cat.old.store session index ≡ Some statement.now }
-    requires definition { is_definition statement.now ≡ true }
+    requires next { next_statement cat.old.program cat.old.store session index ≡ Some (Ok statement.now) }
+    requires definition { is_definition (Ok statement.now) ≡ true }
     ensures { (told : Told) × MadeEntry cat.old cat.new (entry_at cat.old.store session index (kind.Define told)) (Some result) }
 {
     let moment = cat.state.moment + 1;
@@ -56,8 +58,8 @@ pub fn define(cat: &mut Catalog, session: u32, index: u32, statement: &Statement
 }
 
 fn start_statement(cat: &mut Catalog, session: u32, index: u32, statement: &Statement) -> Started
-    requires next { next_statement cat.old.program cat.old.store session index ≡ Some statement.now }
-    requires started { is_started statement.now ≡ true }
+    requires next { next_statement cat.old.program cat.old.store session index ≡ Some (Ok statement.now) }
+    requires started { is_started (Ok statement.now) ≡ true }
     ensures entry { (told : Told) × MadeEntry cat.old cat.new (entry_at cat.old.store session index (kind.Start told)) (reply_to_start result) }
     ensures ticket { GivesTicket cat.old cat.new session index statement.now result }
 {
@@ -68,30 +70,48 @@ fn start_statement(cat: &mut Catalog, session: u32, index: u32, statement: &Stat
     started
 }
 
+// A text that is no statement is refused at its start. It takes no memory.
+fn refuse_text(cat: &mut Catalog, session: u32, index: u32, place: u32) -> Started
+    requires { next_statement cat.old.program cat.old.store session index ≡ Some (Err place) }
+    ensures entry { (told : Told) × MadeEntry cat.old cat.new (entry_at cat.old.store session index (kind.Start told)) (reply_to_start result) }
+    ensures refused { result ≡ started.Refused (refusal.Syntax place) }
+{
+    let moment = cat.state.moment + 1;
+    cat.state.end_statement(&cat.program, session, index);
+    let refusal = Refusal::Syntax(place);
+    let told = Told::Refused(refusal_number(refusal));
+    let entry = session_entry(moment, session, index, EntryKind::Start(told));
+    cat.history.push(entry);
+    Started::Refused(refusal)
+}
+
 /// Makes the Start entry of a session's next statement, which is a query or an INSERT: it begins with a
-/// ticket, or is refused, or finds no memory. The text was parsed before.
+/// ticket, or is refused, or finds no memory. A text that is no statement is refused at the place that is
+/// passed. So is a statement that is not carried out yet, for which place 0 is passed.
 pub fn start(
     cat: &mut Catalog,
     session: u32,
     index: u32,
     parsed: Result<&Statement, Syntax>,
 ) -> Started
-    requires next { IsOkAnd parsed (λ statement. next_statement cat.old.program cat.old.store session index ≡ Some statement.now) }
-    requires started { IsOkAnd parsed (λ statement. is_started statement.now ≡ true) }
+    requires next { IfOk parsed (λ statement. next_statement cat.old.program cat.old.store session index ≡ Some (Ok statement.now)) }
+    requires started { IfOk parsed (λ statement. is_started (Ok statement.now) ≡ true) }
+    requires bad { IfErr parsed (λ syntax. next_statement cat.old.program cat.old.store session index ≡ Some (Err syntax.place)) }
     ensures entry { (told : Told) × MadeEntry cat.old cat.new (entry_at cat.old.store session index (kind.Start told)) (reply_to_start result) }
     ensures ticket { IfOk parsed.entry (λ statement. GivesTicket cat.old cat.new session index statement.now result) }
+    ensures refused { IfErr parsed.entry (λ syntax. result ≡ started.Refused (refusal.Syntax syntax.place)) }
 {
-    let Ok(statement) = parsed else {
-        unreachable!()
-    };
-    start_statement(cat, session, index, statement)
+    match parsed {
+        Ok(statement) => start_statement(cat, session, index, statement),
+        Err(Syntax { place }) => refuse_text(cat, session, index, place),
+    }
 }
 
-/// Makes the End entry of an open query, whose answer is that over what its ticket holds. It takes no
+/// Makes the End entry of an open query, whose answer is the rows that its ticket holds. It takes no
 /// memory.
 pub fn end_read(cat: &mut Catalog, ticket: Ticket)
     requires { IsQueryTicket cat.old ticket }
-    ensures { MadeEntry cat.old cat.new (entry_at cat.old.store ticket.session ticket.index (kind.End [] [])) (Some (reply.Rows (answer_of (opened_by ticket)))) }
+    ensures { MadeEntry cat.old cat.new (entry_at cat.old.store ticket.session ticket.index (kind.End [] [])) (Some (reply.Rows (rows_read (opened_by ticket).sources))) }
 {
     let Ticket {
         session,

@@ -1,13 +1,15 @@
-ghost use Rattle.std.specs.Prelude.{◌≡◌, ◌+◌, ◌*◌, ◌≤◌, ◌<◌, [], ◌++◌, IfOk, OnOk, map};
+ghost use Rattle.std.specs.Prelude.{◌≡◌, ◌≤◌, [], ◌++◌, length, IfOk, OnOk, map};
 ghost use Rattle.std.specs.List.{flat_map};
-ghost use Rattle.tt_history.specs.Limits.{IsWithinLimits, statements_in, entry_limit};
-ghost use Rattle.tt_history.specs.Store.{empty_store, points_before, new_session};
+ghost use Rattle.tt_plain.specs.Limits.{statements_in, entry_limit};
+ghost use Rattle.tt_plain.specs.Store.{empty_store, points_before, new_session};
 ghost use Rattle.tt_state.specs.PlainOf.{plain_of};
 
 use crate::state::State;
 use std::alloc::{AllocError, Global};
 use std::marker::Model;
-use tt_history::{History, PlainSession, Program, SessionText};
+use tt_history::History;
+use tt_plain::PlainSession;
+use tt_script::{Program, Script, SessionText};
 
 /// The tables with the bag of each version, the sessions, and the history of what they did. It keeps the
 /// program that it was made for and the rows of a partition. Contracts see it as a `Book`, whose history
@@ -40,7 +42,7 @@ fn push_points(points: &mut Vec<Option<u64>>, lines: &SessionText) -> Result<(),
     Ok(())
 }
 
-fn first_points(alloc: Global, program: &Program) -> Result<Vec<Option<u64>>, AllocError>
+fn first_points(alloc: Global, program: &Script) -> Result<Vec<Option<u64>>, AllocError>
     ensures { IfOk result (λ points. points.items ≡ flat_map points_before program.now.sessions) }
 {
     let mut points = Vec::new(alloc);
@@ -50,7 +52,7 @@ fn first_points(alloc: Global, program: &Program) -> Result<Vec<Option<u64>>, Al
     Ok(points)
 }
 
-fn first_sessions(alloc: Global, program: &Program) -> Result<Vec<PlainSession>, AllocError>
+fn first_sessions(alloc: Global, program: &Script) -> Result<Vec<PlainSession>, AllocError>
     ensures { IfOk result (λ sessions. sessions.items ≡ map (λ _. new_session) program.now.sessions) }
 {
     let mut sessions = Vec::new(alloc);
@@ -63,8 +65,8 @@ fn first_sessions(alloc: Global, program: &Program) -> Result<Vec<PlainSession>,
     Ok(sessions)
 }
 
-#[tactic(auto, unfolding(tt_history::specs::Store::empty_store))]
-fn first_state(alloc: Global, program: &Program) -> Result<State, AllocError>
+#[tactic(auto, unfolding(tt_plain::specs::Store::empty_store))]
+fn first_state(alloc: Global, program: &Script) -> Result<State, AllocError>
     ensures { IfOk result (λ state. plain_of state ≡ empty_store program.now) }
 {
     Ok(State {
@@ -76,8 +78,9 @@ fn first_state(alloc: Global, program: &Program) -> Result<State, AllocError>
 }
 
 // Three entries for each statement, and one for each session.
-fn entry_room(program: &Program) -> usize
-    requires { IsWithinLimits program.now }
+fn entry_room(program: &Script) -> usize
+    requires sessions { length program.now.sessions ≤ 64 }
+    requires statements { statements_in program.now.sessions ≤ 100000 }
     ensures { result ≡ entry_limit program.now }
 {
     let sessions = program.sessions.items();
@@ -89,18 +92,18 @@ impl Catalog {
     /// A catalog without tables, whose history is empty and has room for all entries that the program's
     /// statements may make. The cap is the most rows of a partition, 1 to 65,536.
     pub fn new(alloc: Global, program: &Program, cap: u32) -> Result<Catalog, AllocError>
-        requires limits { IsWithinLimits program.now }
         requires cap { (1 ≤ cap) × (cap ≤ 65536) }
         ensures program { IfOk result (λ catalog. catalog.program ≡ program.now) }
         ensures cap { IfOk result (λ catalog. catalog.cap ≡ cap) }
         ensures history { IfOk result (λ catalog. catalog.history ≡ []) }
         ensures store { IfOk result (λ catalog. catalog.store ≡ empty_store program.now) }
     {
+        let script = program.script();
         Ok(Catalog {
-            program: program.copy(alloc)?,
+            program: program.share()?,
             cap,
-            history: History::with_room(alloc, entry_room(program))?,
-            state: first_state(alloc, program)?,
+            history: History::with_room(alloc, entry_room(script))?,
+            state: first_state(alloc, script)?,
         })
     }
 

@@ -1,14 +1,15 @@
 ghost use Rattle.std.specs.Prelude.{◌≡◌, ◌<◌, ◌≤◌, ◌+◌, ◌^◌, length, All, IfOk, OnOk, OnErr, Some};
 ghost use Rattle.tt_value.specs.BagRows.{bag_of, bag_plus};
 ghost use Rattle.tt_value.specs.RowText.{IsPrintable};
-ghost use Rattle.tt_history.specs.Store.{current_rows as rows_of};
-ghost use Rattle.tt_history.specs.InsertRows.{with_commit};
+ghost use Rattle.tt_plain.specs.Store.{current_rows as rows_of};
+ghost use Rattle.tt_plain.specs.InsertRows.{with_commit};
 ghost use Rattle.tt_state.specs.PlainOf.{plain_of};
 
 use crate::opening::current_rows;
 use crate::state::State;
 use std::alloc::{AllocError, Global};
-use tt_history::{PlainTable, SharedBag, Version};
+use tt_history::SharedBag;
+use tt_plain::{PlainTable, Version};
 use tt_value::{Bag, Row};
 
 // A table's current rows with some more.
@@ -32,7 +33,7 @@ fn next_version(
 
 impl State {
     /// Adds rows to the table of this number, from the next moment on.
-    #[tactic(auto, unfolding(tt_history::specs::InsertRows::with_commit, tt_history::specs::InsertRows::with_rows))]
+    #[tactic(auto, unfolding(tt_plain::specs::InsertRows::with_commit, tt_plain::specs::InsertRows::with_rows))]
     pub fn commit(&mut self, number: u32, rows: Vec<Row>) -> Result<(), AllocError>
         requires first { 0 < number }
         requires known { number ≤ length self.old.tables.items }

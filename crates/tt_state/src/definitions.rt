@@ -1,17 +1,21 @@
-ghost use Rattle.std.specs.Prelude.{◌≡◌, ◌+◌, ◌<◌, ◌^◌, length, IfOk, OnOk, OnErr, true, []};
-ghost use Rattle.tt_history.specs.CreateTable.{new_table as table_of, with_table};
-ghost use Rattle.tt_history.specs.DefineEntry.{is_definition};
+ghost use Rattle.std.specs.Prelude.{◌≡◌, ◌+◌, ◌<◌, ◌^◌, length, map, IfOk, OnOk, OnErr, true, Ok, []};
+ghost use Rattle.tt_sql.specs.Built.{built as is_built};
+ghost use Rattle.tt_plain.specs.CreateTable.{column_made, new_table as table_of, with_table};
+ghost use Rattle.tt_plain.specs.Statements.{is_definition};
+ghost use Rattle.tt_plain.specs.Store.{with_ended};
+ghost use Rattle.tt_plain.specs.declared.plain.Plain.{Plain};
 ghost use Rattle.tt_state.specs.Outcomes.{CarriesOut};
-ghost use Rattle.tt_history.specs.Store.{with_ended};
-ghost use Rattle.tt_history.specs.declared.plain.Plain.{Plain};
 ghost use Rattle.tt_state.specs.PlainOf.{plain_of};
 ghost use Rattle.tt_state.specs.Ready.{IsReady};
 
 use crate::lookup::{refusal, refusal_number};
 use crate::state::State;
 use std::alloc::{AllocError, Global};
-use tt_history::{Create, PlainTable, Program, Reply, SharedBag, Statement, Told, Version};
-use tt_value::{Bag, Schema, Sequence};
+use tt_history::{Reply, SharedBag, Told};
+use tt_plain::{PlainTable, Version};
+use tt_script::Program;
+use tt_sql::{ColumnDefinition, CreatedTable, Statement};
+use tt_value::{Bag, Column, Schema, Sequence};
 
 pub fn empty_rows(alloc: Global) -> Result<SharedBag, AllocError>
     ensures { IfOk result (λ rows. rows ≡ []) }
@@ -20,12 +24,32 @@ pub fn empty_rows(alloc: Global) -> Result<SharedBag, AllocError>
     SharedBag::new(alloc, bag)
 }
 
-#[tactic(auto, unfolding(tt_history::specs::CreateTable::new_table))]
+fn make_column(definition: &ColumnDefinition) -> Result<Column, AllocError>
+    ensures { IfOk result (λ column. column ≡ column_made definition.now) }
+{
+    Ok(Column {
+        name: definition.name.text.clone()?,
+        kind: definition.kind,
+        nullable: !definition.not_null,
+    })
+}
+
+fn make_columns(alloc: Global, definitions: &[ColumnDefinition]) -> Result<Vec<Column>, AllocError>
+    ensures { IfOk result (λ columns. columns.items ≡ map column_made definitions.now) }
+{
+    let mut columns = Vec::new(alloc);
+    for definition in definitions {
+        columns.push(make_column(definition)?)?;
+    }
+    Ok(columns)
+}
+
+#[tactic(auto, unfolding(tt_plain::specs::CreateTable::new_table))]
 fn make_table(
     alloc: Global,
     tables: &[PlainTable],
     moment: u64,
-    create: &Create,
+    create: &CreatedTable,
 ) -> Result<PlainTable, AllocError>
     requires { length tables.now + 1 < 2 ^ 32 }
     ensures { IfOk result (λ table. table ≡ table_of tables.now moment create.now) }
@@ -36,11 +60,12 @@ fn make_table(
         begun: moment,
         rows,
     })?;
+    let columns = make_columns(alloc, create.columns.as_slice())?;
     Ok(PlainTable {
         number: tables.len() as u32 + 1,
-        name: create.name.clone()?,
+        name: create.table.name.text.clone()?,
         schema: Schema {
-            columns: create.columns.clone()?,
+            columns: Sequence::from_vec(columns),
         },
         made: moment,
         versions,
@@ -48,8 +73,8 @@ fn make_table(
 }
 
 impl State {
-    #[tactic(auto, unfolding(tt_history::specs::CreateTable::with_table))]
-    fn add_table(&mut self, create: &Create) -> Result<(), AllocError>
+    #[tactic(auto, unfolding(tt_plain::specs::CreateTable::with_table))]
+    fn add_table(&mut self, create: &CreatedTable) -> Result<(), AllocError>
         requires few { length self.old.tables.items + 1 < 2 ^ 32 }
         requires moment { self.old.moment + 1 < 2 ^ 64 }
         ensures ok { OnOk result (plain_of self.new ≡ with_table (plain_of self.old) (self.old.moment + 1) create.now) }
@@ -64,7 +89,8 @@ impl State {
     /// Carries a definition out, where it is not refused and memory is found. The moment is still that
     /// of the last entry.
     fn carry_out(&mut self, statement: &Statement) -> (Told, Reply)
-        requires definition { is_definition statement.now ≡ true }
+        requires built { is_built statement.now ≡ true }
+        requires definition { is_definition (Ok statement.now) ≡ true }
         requires few { length self.old.tables.items + 1 < 2 ^ 32 }
         requires moment { self.old.moment + 1 < 2 ^ 64 }
         ensures { CarriesOut (plain_of self.old) statement.now (plain_of self.new) result.0 result.1 }
@@ -92,7 +118,8 @@ impl State {
         index: u32,
         statement: &Statement,
     ) -> (Told, Reply)
-        requires definition { is_definition statement.now ≡ true }
+        requires built { is_built statement.now ≡ true }
+        requires definition { is_definition (Ok statement.now) ≡ true }
         requires few { length self.old.tables.items + 1 < 2 ^ 32 }
         requires ready { IsReady program.now (plain_of self.old) session index }
         ensures { (defined : Plain) × CarriesOut (plain_of self.old) statement.now defined result.0 result.1

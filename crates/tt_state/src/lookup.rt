@@ -1,97 +1,88 @@
-ghost use Rattle.std.specs.Prelude.{◌≡◌, ◌<◌, length};
-ghost use Rattle.std.specs.List.{list_any};
+ghost use Rattle.std.specs.Prelude.{◌≡◌, true};
 ghost use Rattle.std.specs.Option.{option_copied};
-ghost use Rattle.tt_history.specs.Store.{live_table as live_in, same_name};
-ghost use Rattle.tt_history.specs.CreateTable.{has_double_name as doubles, create_refusal as create_is};
-ghost use Rattle.tt_history.specs.InsertRows.{fits_columns as fits, insert_refusal as insert_is};
-ghost use Rattle.tt_history.specs.SelectRows.{query_refusal as query_is};
-ghost use Rattle.tt_history.specs.Refusals.{refusal_of, refusal_number as number_of};
+ghost use Rattle.std.specs.Str.{bytes_eq};
+ghost use Rattle.tt_sql.specs.Built.{built as is_built};
+ghost use Rattle.tt_sql.specs.declared.statement.Statement.{Statement as StatementTree};
+ghost use Rattle.tt_sql.specs.declared.statement.Statement.TheVariants as tree;
+ghost use Rattle.tt_plain.specs.Places.{name_begin};
+ghost use Rattle.tt_plain.specs.NamedTables.{table_begin as begin_of, live_at};
+ghost use Rattle.tt_plain.specs.Refusals.{refusal_over, refusal_number as number_of};
+ghost use Rattle.tt_plain.specs.RefusalLaws.{IsOnTable};
 
-use tt_history::{Create, Insert, PlainTable, Query, Refusal, Statement};
-use tt_value::{Column, Row, Text};
+use std::slice;
+use tt_history::Refusal;
+use tt_plain::PlainTable;
+use tt_sql::{CreatedTable, Dml, Statement};
+use tt_typer::check;
+use tt_value::{TableName, Text};
 
 fn is_same_name(a: &Text, b: &Text) -> bool
-    ensures { result ≡ same_name a.now b.now }
+    ensures { result ≡ bytes_eq a.now b.now }
 {
     a.as_str() == b.as_str()
 }
 
 /// The live table of a name.
-#[tactic(auto, unfolding(tt_history::specs::Store::live_table))]
-pub fn live_table<'a>(tables: &'a [PlainTable], name: &Text) -> Option<&'a PlainTable>
-    ensures { option_copied result ≡ live_in tables.now name.now }
+#[tactic(auto, unfolding(tt_plain::specs::Store::live_table))]
+pub fn live_table<'a>(tables: &'a [PlainTable], name: &TableName) -> Option<&'a PlainTable>
+    ensures { option_copied result ≡ live_at tables.now name.now }
 {
-    tables.iter().find(|table| is_same_name(&table.name, name))
+    tables
+        .iter()
+        .find(|table| is_same_name(&table.name, &name.name.text))
 }
 
-fn is_among(name: &Text, columns: &[Column]) -> bool
-    ensures { result ≡ list_any (λ other. same_name name.now other.name) columns.now }
+fn table_begin(name: &TableName) -> u32
+    ensures { result ≡ begin_of name.now }
 {
-    columns.iter().any(|other| is_same_name(name, &other.name))
-}
-
-fn has_double_name(columns: &[Column]) -> bool
-    ensures { result ≡ doubles columns.now }
-{
-    let mut rest = columns;
-    while let Some((first, others)) = rest.split_first() {
-        if is_among(&first.name, others) {
-            return true;
-        }
-        rest = others;
-    }
-    false
-}
-
-fn fits_columns(table: &PlainTable, tuples: &[Row]) -> bool
-    ensures { result ≡ fits table.now tuples.now }
-{
-    let columns = table.schema.columns.len();
-    tuples.iter().all(|tuple| tuple.values.len() == columns)
-}
-
-#[tactic(auto, unfolding(tt_history::specs::CreateTable::create_refusal))]
-fn create_refusal(tables: &[PlainTable], create: &Create) -> Option<Refusal>
-    ensures { result ≡ create_is tables.now create.now }
-{
-    if live_table(tables, &create.name).is_some() {
-        return Some(Refusal::TableExists(0));
-    }
-    if create.columns.len() > 32 || has_double_name(create.columns.items()) {
-        return Some(Refusal::WrongCount(0));
-    }
-    None
-}
-
-#[tactic(auto, unfolding(tt_history::specs::InsertRows::insert_refusal))]
-fn insert_refusal(tables: &[PlainTable], insert: &Insert) -> Option<Refusal>
-    ensures { result ≡ insert_is tables.now insert.now }
-{
-    match live_table(tables, &insert.name) {
-        None => Some(Refusal::UnknownTable(0)),
-        Some(table) if fits_columns(table, insert.tuples.items()) => None,
-        Some(_) => Some(Refusal::WrongCount(0)),
+    match &name.schema {
+        Some(front) => front.place,
+        None => name.name.place,
     }
 }
 
-#[tactic(auto, unfolding(tt_history::specs::SelectRows::query_refusal))]
-fn query_refusal(tables: &[PlainTable], query: &Query) -> Option<Refusal>
-    ensures { result ≡ query_is tables.now query.now }
+// Why a statement is refused that reads or changes just the table of this name.
+fn refusal_on_table(
+    tables: &[PlainTable],
+    name: &TableName,
+    statement: &Statement,
+) -> Option<Refusal>
+    requires { IsOnTable statement.now name.now }
+    ensures { result ≡ refusal_over tables.now statement.now }
 {
-    match live_table(tables, &query.name) {
-        None => Some(Refusal::UnknownTable(0)),
-        Some(_) => None,
+    match live_table(tables, name) {
+        Some(table) => check(statement, slice::from_ref(&table.schema)).err(),
+        None => Some(Refusal::UnknownTable(table_begin(name))),
     }
 }
 
-/// Why a statement is refused at its first event, the least-numbered refusal.
+// Why a CREATE TABLE is refused.
+fn create_refusal(
+    tables: &[PlainTable],
+    create: &CreatedTable,
+    statement: &Statement,
+) -> Option<Refusal>
+    requires tree { statement.now ≡ tree.Create create.now }
+    requires built { is_built statement.now ≡ true }
+    ensures { result ≡ refusal_over tables.now statement.now }
+{
+    if live_table(tables, &create.table).is_some() {
+        return Some(Refusal::TableExists(table_begin(&create.table)));
+    }
+    check(statement, &[]).err()
+}
+
+/// Why a statement is refused at its first event: the least-numbered refusal, at its leftmost place. It
+/// takes no memory.
 pub fn refusal(tables: &[PlainTable], statement: &Statement) -> Option<Refusal>
-    ensures { result ≡ refusal_of tables.now statement.now }
+    requires { is_built statement.now ≡ true }
+    ensures { result ≡ refusal_over tables.now statement.now }
 {
     match statement {
-        Statement::Create(create) => create_refusal(tables, create),
-        Statement::Insert(insert) => insert_refusal(tables, insert),
-        Statement::Query(query) => query_refusal(tables, query),
+        Statement::Query(query) => refusal_on_table(tables, &query.first.table, statement),
+        Statement::Dml(Dml::Insert(insert)) => refusal_on_table(tables, &insert.table, statement),
+        Statement::Create(create) => create_refusal(tables, create, statement),
+        _ => unreachable!(),
     }
 }
 

@@ -1,8 +1,9 @@
-ghost use Rattle.std.specs.Prelude.{◌≡◌, ◌<◌, ◌+◌, ◌^◌, length, map, true, None, IfOk};
+ghost use Rattle.std.specs.Prelude.{◌≡◌, map, true, None, Ok, IfOk};
 ghost use Rattle.std.specs.Option.{option_map};
-ghost use Rattle.tt_history.specs.Refusals.{refusal_of};
-ghost use Rattle.tt_history.specs.StartEntry.{is_started};
-ghost use Rattle.tt_history.specs.Store.{current_rows as rows_of};
+ghost use Rattle.tt_sql.specs.Built.{built as is_built};
+ghost use Rattle.tt_plain.specs.Refusals.{refusal_over};
+ghost use Rattle.tt_plain.specs.Statements.{is_started};
+ghost use Rattle.tt_plain.specs.Store.{current_rows as rows_of};
 ghost use Rattle.tt_state.specs.Outcomes.{Starts};
 ghost use Rattle.tt_state.specs.PlainOf.{plain_of};
 ghost use Rattle.tt_state.specs.Ready.{IsReady};
@@ -13,7 +14,10 @@ use crate::lookup::{live_table, refusal, refusal_number};
 use crate::state::State;
 use crate::ticket::{Seen, Started, Ticket};
 use std::alloc::{AllocError, Global};
-use tt_history::{PlainOpen, PlainTable, Program, SharedBag, Statement, Told};
+use tt_history::{SharedBag, Told};
+use tt_plain::{PlainOpen, PlainTable};
+use tt_script::Program;
+use tt_sql::{Dml, Statement};
 use tt_value::Sequence;
 
 /// The rows of a table's last version. No row is copied.
@@ -52,26 +56,27 @@ fn seen_tables(
     tables: &[PlainTable],
     statement: &Statement,
 ) -> Result<(Vec<Seen>, Option<Seen>), AllocError>
-    requires started { is_started statement.now ≡ true }
-    requires free { refusal_of tables.now statement.now ≡ None }
+    requires built { is_built statement.now ≡ true }
+    requires started { is_started (Ok statement.now) ≡ true }
+    requires free { refusal_over tables.now statement.now ≡ None }
     ensures { IfOk result (λ seen. SeesTables tables.now statement.now seen.0.items seen.1) }
 {
     let mut sources = Vec::new(alloc);
     match statement {
-        Statement::Create(_) => unreachable!(),
-        Statement::Insert(insert) => {
-            let Some(table) = live_table(tables, &insert.name) else {
+        Statement::Dml(Dml::Insert(insert)) => {
+            let Some(table) = live_table(tables, &insert.table) else {
                 unreachable!()
             };
             Ok((sources, Some(written_table(alloc, table)?)))
         }
         Statement::Query(query) => {
-            let Some(table) = live_table(tables, &query.name) else {
+            let Some(table) = live_table(tables, &query.first.table) else {
                 unreachable!()
             };
             sources.push(read_table(alloc, table)?)?;
             Ok((sources, None))
         }
+        _ => unreachable!(),
     }
 }
 
@@ -128,8 +133,9 @@ fn make_opening(
     index: u32,
     statement: &Statement,
 ) -> Result<Opening, AllocError>
-    requires started { is_started statement.now ≡ true }
-    requires free { refusal_of tables.now statement.now ≡ None }
+    requires built { is_built statement.now ≡ true }
+    requires started { is_started (Ok statement.now) ≡ true }
+    requires free { refusal_over tables.now statement.now ≡ None }
     ensures sees { IfOk result (λ o. SeesTables tables.now statement.now o.sources.items o.target) }
     ensures seen { IfOk result (λ o. o.seen ≡ opened_with index o.sources.items o.target) }
 {
@@ -151,7 +157,8 @@ impl State {
         index: u32,
         statement: &Statement,
     ) -> (Told, Started)
-        requires started { is_started statement.now ≡ true }
+        requires built { is_built statement.now ≡ true }
+        requires started { is_started (Ok statement.now) ≡ true }
         requires ready { IsReady program.now (plain_of self.old) session index }
         ensures { Starts program.now (plain_of self.old) session index statement.now (plain_of self.new) result.0 result.1 }
     {

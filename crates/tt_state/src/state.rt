@@ -1,9 +1,10 @@
 ghost use Rattle.std.specs.Prelude.{◌≡◌, ◌+◌, ◌-◌, ◌<◌, ◌≤◌, ◌^◌, length, OnOk, OnErr};
-ghost use Rattle.tt_history.specs.Store.{point_place, with_ended, with_opened};
+ghost use Rattle.tt_plain.specs.Store.{point_place, with_ended, with_opened};
 ghost use Rattle.tt_state.specs.PlainOf.{plain_of};
 ghost use Rattle.tt_state.specs.Ready.{IsReady};
 
-use tt_history::{PlainOpen, PlainSession, PlainTable, Program};
+use tt_plain::{PlainOpen, PlainSession, PlainTable};
+use tt_script::Program;
 
 /// What the catalog keeps beside its program and its history. The moment is that of the last entry, in
 /// milliseconds; the rows of a version are shared and never copied.
@@ -22,14 +23,14 @@ fn point_index(program: &Program, session: u32, index: u32) -> usize
     requires within { point_place program.now session index < 2 ^ 64 }
     ensures { result ≡ point_place program.now session index }
 {
-    let earlier = &program.sessions.items()[..session as usize];
+    let earlier = &program.script().sessions.items()[..session as usize];
     let before: usize = earlier.iter().map(|lines| lines.statements.len()).sum();
     before + (index as usize - 1)
 }
 
 impl State {
     /// The statement has ended, at the next moment.
-    #[tactic(auto, unfolding(tt_history::specs::Store::with_ended))]
+    #[tactic(auto, unfolding(tt_plain::specs::Store::with_ended))]
     pub fn end_statement(&mut self, program: &Program, session: u32, index: u32)
         requires { IsReady program.now (plain_of self.old) session index }
         ensures { plain_of self.new ≡ with_ended program.now (plain_of self.old) (self.old.moment + 1) session index }
@@ -44,7 +45,7 @@ impl State {
     }
 
     /// The statement has begun, at the next moment.
-    #[tactic(auto, unfolding(tt_history::specs::Store::with_opened))]
+    #[tactic(auto, unfolding(tt_plain::specs::Store::with_opened))]
     pub fn begin_statement(&mut self, program: &Program, session: u32, index: u32, seen: PlainOpen)
         requires { IsReady program.now (plain_of self.old) session index }
         ensures { plain_of self.new ≡ with_opened program.now (plain_of self.old) (self.old.moment + 1) session index seen }

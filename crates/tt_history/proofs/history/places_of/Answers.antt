@@ -1,7 +1,7 @@
 use Rattle.std.proofs.Common.{sym, ap, ◌∙◌}
 use Rattle.tt_history.specs.declared.history.Entry.{Entry}
 use Rattle.tt_history.specs.Projection.{is_session}
-use Rattle.tt_history.proofs.Parts.{place_is_kept, place_is_skipped, places_end}
+use Rattle.tt_history.proofs.Places.{place_is_kept, place_is_skipped, places_end}
 use Rattle.tt_history.proofs.history.places_of.Goals as goal
 use Rattle.tt_history.proofs.history.places_of.Goals.{then-is_session+in_ok-push, else-is_session}
 

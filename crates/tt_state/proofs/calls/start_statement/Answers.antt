@@ -1,44 +1,49 @@
-use Rattle.std.proofs.Common.{◌≡◌, ◌∷◌, ◌++◌, [], Some, sym, ap, ◌∙◌, subst, arith, refl}
+use Rattle.std.proofs.Common.{◌≡◌, ◌∷◌, ◌++◌, [], Some, Ok, sym, ap, ◌∙◌, subst, arith, refl}
 use Rattle.tt_history.specs.declared.history.Told.{Told}
 use Rattle.tt_history.specs.declared.history.EntryKind.TheVariants as kind
-use Rattle.tt_history.specs.Store.{next_statement}
-use Rattle.tt_history.specs.StepLaws.{entry_at}
+use Rattle.tt_plain.specs.Store.{next_statement}
+use Rattle.tt_plain.specs.StepLaws.{entry_at}
 use Rattle.tt_state.specs.Book.{Book, MadeEntry}
 use Rattle.tt_state.specs.Outcomes.{reply_to_start}
 use Rattle.tt_state.specs.Tickets.{GivesTicket}
 use Rattle.tt_state.specs.PlainOf.{plain_of}
-use Rattle.tt_state.specs.OutcomeLaws.{started_allowed}
+use Rattle.tt_state.specs.OutcomeLaws.{started_step}
 use Rattle.tt_state.specs.BookLaws.{has_room, goes_on, made}
-use Rattle.tt_state.proofs.Turns.{next_ready, ticket_given}
+use Rattle.tt_state.proofs.Turns.{next_ready, next_built, ticket_given}
 use Rattle.tt_state.proofs.calls.start_statement.Goals as goal
 
 pub overflow_add-moment : goal.overflow_add-moment
 overflow_add-moment c =
-    let next = subst (λ (b : Book). next_statement b.program b.store c.args.session c.args.index ≡ Some c.args.statement.now) (sym c.cat.view_is) c.requires.next in
+    let next = subst (λ (b : Book). next_statement b.program b.store c.args.session c.args.index ≡ Some (Ok c.args.statement.now)) (sym c.cat.view_is) c.requires.next in
     omega (arith, (next_ready _ _ _ _ _ c.cat.invariant next).moment)
 
 pub start-told-requires-clause-ready : goal.start-told-requires-clause-ready
 start-told-requires-clause-ready c =
-    let next = subst (λ (b : Book). next_statement b.program b.store c.args.session c.args.index ≡ Some c.args.statement.now) (sym c.cat.view_is) c.requires.next in
+    let next = subst (λ (b : Book). next_statement b.program b.store c.args.session c.args.index ≡ Some (Ok c.args.statement.now)) (sym c.cat.view_is) c.requires.next in
     next_ready _ _ _ _ _ c.cat.invariant next
+
+pub start-told-requires-clause-built : goal.start-told-requires-clause-built
+start-told-requires-clause-built c =
+    let next = subst (λ (b : Book). next_statement b.program b.store c.args.session c.args.index ≡ Some (Ok c.args.statement.now)) (sym c.cat.view_is) c.requires.next in
+    next_built _ _ _ _ _ next
 
 pub push-requires : goal.push-requires
 push-requires c =
-    let next = subst (λ (b : Book). next_statement b.program b.store c.args.session c.args.index ≡ Some c.args.statement.now) (sym c.cat.view_is) c.requires.next in
-    let allowed = started_allowed c.cat.inside.program (plain_of c.cat.inside.state) (plain_of c.start-told.new.self) c.args.session c.args.index c.args.statement.now c.start-told.result.0 c.start-told.result.1 c.cat.invariant.sound next c.requires.started c.start-told.ensures in
+    let next = subst (λ (b : Book). next_statement b.program b.store c.args.session c.args.index ≡ Some (Ok c.args.statement.now)) (sym c.cat.view_is) c.requires.next in
+    let allowed = started_step c.cat.inside.program (plain_of c.cat.inside.state) (plain_of c.start-told.new.self) c.args.session c.args.index c.args.statement.now c.start-told.result.0 c.start-told.result.1 next c.requires.started c.start-told.ensures in
     has_room _ _ _ _ _ c.cat.invariant allowed
 
 pub invariant_of-cat : goal.invariant_of-cat
 invariant_of-cat c =
-    let next = subst (λ (b : Book). next_statement b.program b.store c.args.session c.args.index ≡ Some c.args.statement.now) (sym c.cat.view_is) c.requires.next in
-    let allowed = started_allowed c.cat.inside.program (plain_of c.cat.inside.state) (plain_of c.start-told.new.self) c.args.session c.args.index c.args.statement.now c.start-told.result.0 c.start-told.result.1 c.cat.invariant.sound next c.requires.started c.start-told.ensures in
+    let next = subst (λ (b : Book). next_statement b.program b.store c.args.session c.args.index ≡ Some (Ok c.args.statement.now)) (sym c.cat.view_is) c.requires.next in
+    let allowed = started_step c.cat.inside.program (plain_of c.cat.inside.state) (plain_of c.start-told.new.self) c.args.session c.args.index c.args.statement.now c.start-told.result.0 c.start-told.result.1 next c.requires.started c.start-told.ensures in
     let longer = c.push.ensures.entries ∙ ap (λ e. c.cat.inside.history.list ++ e ∷ []) c.session_entry-entry.ensures in
     goes_on _ _ _ _ _ _ _ _ c.cat.invariant allowed longer refl c.push.ensures.room
 
 pub returns-clause-entry : goal.returns-clause-entry
 returns-clause-entry c =
-    let next = subst (λ (b : Book). next_statement b.program b.store c.args.session c.args.index ≡ Some c.args.statement.now) (sym c.cat.view_is) c.requires.next in
-    let allowed = started_allowed c.cat.inside.program (plain_of c.cat.inside.state) (plain_of c.start-told.new.self) c.args.session c.args.index c.args.statement.now c.start-told.result.0 c.start-told.result.1 c.cat.invariant.sound next c.requires.started c.start-told.ensures in
+    let next = subst (λ (b : Book). next_statement b.program b.store c.args.session c.args.index ≡ Some (Ok c.args.statement.now)) (sym c.cat.view_is) c.requires.next in
+    let allowed = started_step c.cat.inside.program (plain_of c.cat.inside.state) (plain_of c.start-told.new.self) c.args.session c.args.index c.args.statement.now c.start-told.result.0 c.start-told.result.1 next c.requires.started c.start-told.ensures in
     let longer = c.push.ensures.entries ∙ ap (λ e. c.cat.inside.history.list ++ e ∷ []) c.session_entry-entry.ensures in
     let new : Book = record { program = c.cat.inside.program; cap = c.cat.inside.cap; history = c.push.new.self.list; store = plain_of c.start-told.new.self } in
     subst (λ (b : Book). (x : Told) × MadeEntry b new (entry_at b.store c.args.session c.args.index (kind.Start x)) (reply_to_start c.start-told.result.1)) c.cat.view_is
@@ -46,7 +51,7 @@ returns-clause-entry c =
 
 pub returns-clause-ticket : goal.returns-clause-ticket
 returns-clause-ticket c =
-    let next = subst (λ (b : Book). next_statement b.program b.store c.args.session c.args.index ≡ Some c.args.statement.now) (sym c.cat.view_is) c.requires.next in
+    let next = subst (λ (b : Book). next_statement b.program b.store c.args.session c.args.index ≡ Some (Ok c.args.statement.now)) (sym c.cat.view_is) c.requires.next in
     let new : Book = record { program = c.cat.inside.program; cap = c.cat.inside.cap; history = c.push.new.self.list; store = plain_of c.start-told.new.self } in
     subst (λ (b : Book). GivesTicket b new c.args.session c.args.index c.args.statement.now c.start-told.result.1) c.cat.view_is
-    (ticket_given (record { program = c.cat.inside.program; cap = c.cat.inside.cap; history = c.cat.inside.history.list; store = plain_of c.cat.inside.state }) c.args.session c.args.index c.args.statement.now c.start-told.result.0 c.start-told.result.1 c.push.new.self.list (plain_of c.start-told.new.self) next c.start-told.ensures)
+    (ticket_given (record { program = c.cat.inside.program; cap = c.cat.inside.cap; history = c.cat.inside.history.list; store = plain_of c.cat.inside.state }) _ c.args.session c.args.index c.args.statement.now c.start-told.result.0 c.start-told.result.1 c.push.new.self.list (plain_of c.start-told.new.self) c.cat.invariant next c.start-told.ensures)

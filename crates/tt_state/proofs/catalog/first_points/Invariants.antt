@@ -1,6 +1,6 @@
 use Rattle.std.proofs.Common.{◌≡◌, take}
 use Rattle.std.specs.List.{flat_map}
-use Rattle.tt_history.specs.Store.{points_before}
+use Rattle.tt_plain.specs.Store.{points_before}
 use Rattle.tt_state.proofs.catalog.first_points.Given as goal
 
 abbrev pub invariant-loop-lines : goal.invariant-loop-lines

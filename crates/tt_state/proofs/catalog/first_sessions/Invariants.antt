@@ -1,5 +1,5 @@
 use Rattle.std.proofs.Common.{◌≡◌, take, map}
-use Rattle.tt_history.specs.Store.{new_session}
+use Rattle.tt_plain.specs.Store.{new_session}
 use Rattle.tt_state.proofs.catalog.first_sessions.Given as goal
 
 abbrev pub invariant-loop-lines : goal.invariant-loop-lines

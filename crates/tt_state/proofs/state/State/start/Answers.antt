@@ -1,7 +1,8 @@
 use Rattle.std.proofs.Common.{◌+◌, refl, sym, ap, subst, ◌∙◌}
-use Rattle.tt_history.specs.Store.{with_opened}
+use Rattle.tt_plain.specs.Store.{with_opened}
 use Rattle.tt_state.specs.PlainOf.{plain_of}
-use Rattle.tt_history.specs.Refusals.{refusal_of}
+use Rattle.tt_plain.specs.Carried.{built_carried}
+use Rattle.tt_plain.specs.Refusals.{refusal_over}
 use Rattle.tt_state.specs.Tickets.{SeesTables}
 use Rattle.tt_state.specs.OutcomeLaws.{sees_opened}
 use Rattle.tt_state.proofs.state.State.start.Goals as goal
@@ -11,8 +12,8 @@ returns c =
     let old = c.args.self.now in
     let opening = c.in-Ok.opening in
     let sees = subst (λ tables. SeesTables tables c.args.statement.now opening.sources.items opening.target) c.as_slice-2.ensures.value c.in-Ok.ensures.sees in (
-      ap (λ tables. refusal_of tables c.args.statement.now) (sym c.as_slice.ensures.value) ∙ sym c.refusal.ensures ∙ c.in_default.is,
-      sees_opened old.tables.items c.args.index c.args.statement.now opening.sources.items opening.target sees,
+      ap (λ tables. refusal_over tables c.args.statement.now) (sym c.as_slice.ensures.value) ∙ sym c.refusal.ensures ∙ c.in_default.is,
+      sees_opened old.tables.items c.args.index c.args.statement.now opening.sources.items opening.target (built_carried c.args.statement.now c.requires.built) sees,
       refl,
       refl,
       sees,

@@ -1,0 +1,5 @@
+use Rattle.tt_plain.specs.Ways.{step_goes}
+use Rattle.tt_plain.proofs.laws.entries_go_known_ways.Goals as goal
+
+pub returns : goal.returns
+returns c = step_goes

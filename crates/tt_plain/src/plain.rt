@@ -1,0 +1,47 @@
+use tt_history::SharedBag;
+use tt_value::{Schema, Sequence, Text};
+
+/// The rows of a table from a moment on.
+#[derive(Debug, Drop)]
+pub struct Version {
+    pub begun: u64,
+    pub rows: SharedBag,
+}
+
+/// A table with a full copy of the rows of each of its versions, the oldest first. Tables are numbered
+/// from 1 in the order of their making.
+#[derive(Debug, Drop)]
+pub struct PlainTable {
+    pub number: u32,
+    pub name: Text,
+    pub schema: Schema,
+    pub made: u64,
+    pub versions: Sequence<Version>,
+}
+
+/// A statement that has begun: the tables that it reads and the one that it changes, each by its number
+/// with the rows that the statement sees of it.
+#[derive(Debug, Drop)]
+pub struct PlainOpen {
+    pub index: u32,
+    pub sources: Sequence<(u32, SharedBag)>,
+    pub target: Option<(u32, SharedBag)>,
+}
+
+/// A session: how many of its statements have ended, and the one that is open.
+#[derive(Debug, Drop)]
+pub struct PlainSession {
+    pub done: u32,
+    pub running: Option<PlainOpen>,
+}
+
+/// A store that keeps each version of each table as a full copy of its rows. The points are those of
+/// all statements, session after session: none where the statement has no entry yet, and the greatest
+/// u64 where it has an entry and is still open.
+#[derive(Debug, Drop)]
+pub struct Plain {
+    pub moment: u64,
+    pub tables: Sequence<PlainTable>,
+    pub sessions: Sequence<PlainSession>,
+    pub points: Sequence<Option<u64>>,
+}
