@@ -1,4 +1,6 @@
 pub mod AnsweredLines
+pub mod Reading
+pub mod InsertedRows
 pub mod Turns
 pub mod TurnsLaws
 pub mod RunLaws

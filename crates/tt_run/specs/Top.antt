@@ -1,6 +1,7 @@
 -- The statuses of the top call and their causes.
-use Rattle.std.specs.Prelude.{◌≡◌, ◌⊎◌, ℕ, List, length, is_some, nat_lt, if◌then◌else◌, ⊤}
-use Rattle.tt_history.specs.Script.{program_of}
+use Rattle.std.specs.Prelude.{◌≡◌, ◌⊎◌, ℕ, List, length, Result, Ok, Err, nat_lt, if◌then◌else◌, ⊤}
+use Rattle.tt_script.specs.declared.script.Script.{Script}
+use Rattle.tt_script.specs.Script.{answer_of}
 use Rattle.tt_run.specs.Words.{are_replay_words}
 use Rattle.tt_run.specs.declared.top.Status.{Status}
 use Rattle.tt_run.specs.declared.top.Status.TheVariants as status
@@ -19,9 +20,14 @@ number_of status.TooLong = 7
 abbrev pub longest_input : ℕ
 longest_input = 67108864
 
+-- the status that a script asks for, or the place of its first faulty line
+abbrev pub answer_status : Result Script ℕ → Status
+answer_status (Ok script) = status.Ok
+answer_status (Err place) = status.BadInput place
+
 -- the status that the bytes of an input ask for
 abbrev pub input_status : List ℕ → Status
-input_status input = if nat_lt longest_input (length input) then status.TooLong else if is_some (program_of input) then status.Ok else status.BadInput 0
+input_status input = if nat_lt longest_input (length input) then status.TooLong else answer_status (answer_of input)
 
 -- the status that is due where memory is found and no read or write fails
 abbrev pub due_status : List (List ℕ) → List ℕ → Status
@@ -47,7 +53,7 @@ IfBadInput other P = ⊤
 abbrev pub IsEarly : Status → Type 0
 IsEarly status.Ok = ⊥
 IsEarly status.BadWords = ⊥
-IsEarly (status.BadInput place) = place ≡ 0
+IsEarly (status.BadInput place) = ⊤
 IsEarly status.ReadFault = ⊤
 IsEarly status.WriteFault = ⊥
 IsEarly status.OutOfMemory = ⊤

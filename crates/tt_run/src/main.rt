@@ -2,6 +2,8 @@
 #![tactic(auto)]
 
 mod failure;
+mod insert;
+mod parsing;
 mod run;
 mod session;
 mod settle;

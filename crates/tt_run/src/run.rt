@@ -1,86 +1,98 @@
 //! A program's run: its sessions one after the other, and the transcript of what they did.
 
-ghost use Rattle.std.specs.Prelude.{◌≡◌, ◌≤◌, ◌<◌, length, IfOk, [], Some, slice_get};
-ghost use Rattle.tt_history.specs.ProgramLaws.{WasRead};
-ghost use Rattle.tt_history.specs.Store.{empty_store};
-ghost use Rattle.tt_history.specs.TurnLaws.{IsIdle};
-ghost use Rattle.tt_run.specs.Turns.{HasReplies, AreStatements, IsFirstDone};
-ghost use Rattle.tt_run.specs.Outcomes.{IsFinished, IsTranscript};
+ghost use Rattle.std.specs.Prelude.{◌≡◌, ◌≤◌, ◌<◌, ◌+◌, ◌^◌, length, IfOk, OnOk, [], Some, slice_get};
+ghost use Rattle.tt_plain.specs.Store.{empty_store};
+ghost use Rattle.tt_plain.specs.TurnLaws.{IsIdle};
+ghost use Rattle.tt_run.specs.Turns.{IsReplayed, HasReplies, Answers, InTurn, KeepsOthers, AreDone};
+ghost use Rattle.tt_run.specs.Outcomes.{IsFinished, IsTranscript, InOrder};
 
+use crate::parsing::{carried, read_statement};
 use crate::session::run_statement;
 use crate::settle::settle;
 use crate::transcript::transcript;
 use std::alloc::{AllocError, Global};
-use tt_history::{Program, ReadError, Reply, SessionText, Statement, session_statements};
+use tt_history::Reply;
+use tt_script::{Program, SessionText};
 use tt_state::Catalog;
 
-/// The most rows of a partition.
-const PARTITION_ROWS: u32 = 4_096;
+// Reads the text of a session's next statement, whose place is counted from 0, and makes its events.
+fn run_next(
+    cat: &mut Catalog,
+    alloc: Global,
+    program: &Program,
+    session: u32,
+    place: u32,
+    lines: &SessionText,
+) -> Result<Reply, AllocError>
+    requires same { cat.old.program ≡ program.now }
+    requires short { length program.now.text < 2 ^ 32 }
+    requires lines { slice_get program.now.sessions session ≡ Some lines.now }
+    requires within { place < length lines.now.statements }
+    requires few { place + 1 < 2 ^ 32 }
+    requires idle { IsIdle cat.old.store session place }
+    requires replayed { IsReplayed cat.old }
+    ensures { IfOk result (λ reply. Answers cat.old cat.new session (place + 1) reply) }
+{
+    let Some(text) = program.statement(session as usize, place as usize) else {
+        unreachable!()
+    };
+    let read = carried(read_statement(alloc, text)?);
+    Ok(run_statement(cat, alloc, session, place + 1, read))
+}
 
-// The statements of the one session, each from its first entry to its last. Room for the replies is
-// taken before the first event.
+// A session's statements, each from its first entry to its last.
 fn run_session(
     cat: &mut Catalog,
     alloc: Global,
-    statements: &[Statement],
-) -> Result<Vec<Reply>, AllocError>
-    requires statements { AreStatements cat.old.program 0 statements.now }
-    requires idle { IsIdle cat.old.store 0 0 }
-    requires replies { HasReplies cat.old [] }
-    requires few { length statements.now ≤ 100000 }
-    ensures program { IfOk result (λ _. cat.new.program ≡ cat.old.program) }
-    ensures replies { IfOk result (λ replies. HasReplies cat.new replies.items) }
-    ensures idle { IfOk result (λ _. IsIdle cat.new.store 0 (length statements.now)) }
+    program: &Program,
+    session: u32,
+    lines: &SessionText,
+    replies: &mut Vec<Reply>,
+) -> Result<(), AllocError>
+    requires same { cat.old.program ≡ program.now }
+    requires short { length program.now.text < 2 ^ 32 }
+    requires lines { slice_get program.now.sessions session ≡ Some lines.now }
+    requires few { length lines.now.statements ≤ 100000 }
+    requires idle { IsIdle cat.old.store session 0 }
+    requires turn { InTurn cat.old session }
+    requires replies { HasReplies cat.old replies.old.items }
+    ensures program { OnOk result (cat.new.program ≡ program.now) }
+    ensures rows { OnOk result (cat.new.cap ≡ cat.old.cap) }
+    ensures replies { OnOk result (HasReplies cat.new replies.new.items) }
+    ensures turn { OnOk result (InTurn cat.new session) }
+    ensures others { OnOk result (KeepsOthers cat.old.store cat.new.store session) }
+    ensures done { OnOk result (IsIdle cat.new.store session (length lines.now.statements)) }
 {
-    let mut replies = Vec::with_capacity(alloc, statements.len())?;
-    for place in 0..statements.len() {
-        let statement = &statements[place];
-        let reply = run_statement(cat, alloc, 0, place as u32 + 1, statement);
-        replies.push_reserved(reply);
+    for place in 0..lines.statements.len() {
+        let reply = run_next(cat, alloc, program, session, place as u32, lines)?;
+        replies.push(reply)?;
+    }
+    Ok(())
+}
+
+// All sessions, each to its end before the next.
+fn run_sessions(
+    cat: &mut Catalog,
+    alloc: Global,
+    program: &Program,
+) -> Result<Vec<Reply>, AllocError>
+    requires same { cat.old.program ≡ program.now }
+    requires short { length program.now.text < 2 ^ 32 }
+    requires history { cat.old.history ≡ [] }
+    requires store { cat.old.store ≡ empty_store program.now }
+    ensures program { IfOk result (λ _. cat.new.program ≡ program.now) }
+    ensures rows { IfOk result (λ _. cat.new.cap ≡ cat.old.cap) }
+    ensures replies { IfOk result (λ replies. HasReplies cat.new replies.items) }
+    ensures done { IfOk result (λ _. AreDone program.now cat.new.store (length program.now.sessions)) }
+    ensures order { IfOk result (λ _. InOrder cat.new) }
+{
+    let mut replies = Vec::new(alloc);
+    let sessions = program.script().sessions.items();
+    for session in 0..sessions.len() {
+        let lines = &sessions[session];
+        run_session(cat, alloc, program, session as u32, lines, &mut replies)?;
     }
     Ok(replies)
-}
-
-fn first_replies(
-    cat: &mut Catalog,
-    alloc: Global,
-    program: &Program,
-    lines: &SessionText,
-) -> Result<Vec<Reply>, AllocError>
-    requires same { cat.old.program ≡ program.now }
-    requires read { WasRead program.now }
-    requires first { slice_get program.now.sessions 0 ≡ Some lines.now }
-    requires idle { IsIdle cat.old.store 0 0 }
-    requires replies { HasReplies cat.old [] }
-    ensures program { IfOk result (λ _. cat.new.program ≡ program.now) }
-    ensures replies { IfOk result (λ replies. HasReplies cat.new replies.items) }
-    ensures idle { IfOk result (λ _. IsIdle cat.new.store 0 (length lines.now.statements)) }
-{
-    let statements = match session_statements(alloc, program, lines) {
-        Ok(statements) => statements,
-        Err(ReadError::Bad) => unreachable!(),
-        Err(ReadError::Memory) => return Err(AllocError),
-    };
-    run_session(cat, alloc, statements.as_slice())
-}
-
-fn all_replies(
-    cat: &mut Catalog,
-    alloc: Global,
-    program: &Program,
-) -> Result<Vec<Reply>, AllocError>
-    requires same { cat.old.program ≡ program.now }
-    requires read { WasRead program.now }
-    requires store { cat.old.store ≡ empty_store program.now }
-    requires replies { HasReplies cat.old [] }
-    ensures program { IfOk result (λ _. cat.new.program ≡ program.now) }
-    ensures replies { IfOk result (λ replies. HasReplies cat.new replies.items) }
-    ensures done { IfOk result (λ _. IsFirstDone program.now cat.new.store) }
-{
-    match program.sessions.items().first() {
-        None => Ok(Vec::new(alloc)),
-        Some(lines) => first_replies(cat, alloc, program, lines),
-    }
 }
 
 /// A run that came to its end: the catalog, and the transcript of its history.
@@ -90,17 +102,25 @@ pub struct Finished {
 }
 
 /// Runs a program's sessions one after the other, each to its end, settles, and writes the transcript down.
-pub fn run_program(alloc: Global, program: &Program) -> Result<Finished, AllocError>
-    requires { WasRead program.now }
+/// Partitions have at most so many rows.
+pub fn run_program(
+    alloc: Global,
+    program: &Program,
+    partition_rows: u32,
+) -> Result<Finished, AllocError>
+    requires short { length program.now.text < 2 ^ 32 }
+    requires rows { (1 ≤ partition_rows) × (partition_rows ≤ 65536) }
     ensures finished { IfOk result (λ finished. IsFinished program.now finished.store) }
+    ensures order { IfOk result (λ finished. InOrder finished.store) }
+    ensures rows { IfOk result (λ finished. finished.store.cap ≡ partition_rows) }
     ensures text { IfOk result (λ finished. IsTranscript finished.store finished.text.items) }
 {
-    let mut store = Catalog::new(alloc, program, PARTITION_ROWS)?;
-    let replies = all_replies(&mut store, alloc, program)?;
+    let mut store = Catalog::new(alloc, program, partition_rows)?;
+    let replies = run_sessions(&mut store, alloc, program)?;
     settle(&mut store);
     let text = transcript(
         alloc,
-        program,
+        program.script(),
         store.history().entries(),
         replies.as_slice(),
     )?;

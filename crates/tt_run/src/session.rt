@@ -1,26 +1,26 @@
 //! A session's statements, one event after another.
 
-ghost use Rattle.std.specs.Prelude.{◌≡◌, ◌<◌, ◌≤◌, ◌+◌, length, All, IfOk, IfErr, IsOk, Some, IsSome, [], vec_len, map};
-ghost use Rattle.std.specs.Option.{option_map};
-ghost use Rattle.tt_value.specs.RowText.{IsPrintable};
-ghost use Rattle.tt_history.specs.declared.sql.Statement.TheVariants as statement;
-ghost use Rattle.tt_history.specs.Store.{next_statement};
-ghost use Rattle.tt_history.specs.SelectRows.{answer_of};
-ghost use Rattle.tt_history.specs.ProgramLaws.{AddsPrintable};
-ghost use Rattle.tt_history.specs.TurnLaws.{IsIdle};
+ghost use Rattle.std.specs.Prelude.{◌≡◌, ◌<◌, IfOk, Ok, Err, Some, vec_len};
+ghost use Rattle.tt_sql.specs.declared.change.Dml.TheVariants as dml;
+ghost use Rattle.tt_sql.specs.declared.statement.Statement.TheVariants as statement;
+ghost use Rattle.tt_plain.specs.SelectRows.{rows_read};
+ghost use Rattle.tt_plain.specs.Store.{next_statement};
 ghost use Rattle.tt_state.specs.Tickets.{IsTicketOf, IsQueryTicket, opened_by};
-ghost use Rattle.tt_run.specs.Turns.{Answers, HasReplies, AreStatements};
+ghost use Rattle.tt_run.specs.InsertedRows.{IsFor, AreAdded};
+ghost use Rattle.tt_run.specs.Reading.{as_read};
+ghost use Rattle.tt_run.specs.Turns.{IsReplayed, Answers};
 
+use crate::insert::stored_rows;
 use std::alloc::{AllocError, Global};
-use tt_history::{Insert, Query, Reply, SharedBag, Statement, Told};
+use tt_history::{Reply, SharedBag, Told};
+use tt_sql::{Dml, Insert, Query, Statement, Syntax};
 use tt_state::calls::{abandon, define, end_change, end_read, start};
 use tt_state::{Built, Catalog, Started, Ticket};
-use tt_value::Row;
 
 // The rows that a query's ticket holds, shared and not copied.
 fn answer(ticket: &Ticket) -> Result<SharedBag, AllocError>
     requires { 0 < vec_len ticket.now.sources }
-    ensures { IfOk result (λ rows. rows ≡ answer_of (opened_by ticket.now)) }
+    ensures { IfOk result (λ rows. rows ≡ rows_read (opened_by ticket.now).sources) }
 {
     let Some((seen, _others)) = ticket.sources.split_first() else {
         unreachable!()
@@ -41,21 +41,15 @@ fn answer_query(cat: &mut Catalog, ticket: Ticket) -> Reply
     Reply::Rows(rows)
 }
 
-fn copy_of(row: &Row) -> Result<Row, AllocError>
-    ensures { IfOk result (λ copy. copy ≡ row.now) }
+// What an INSERT adds to the table of its ticket.
+fn added(alloc: Global, ticket: &Ticket, insert: &Insert) -> Result<Built, AllocError>
+    requires { IsFor ticket.now insert.now }
+    ensures { IfOk result (λ built. AreAdded ticket.now insert.now built) }
 {
-    row.clone()
-}
-
-// The rows of the tuples, in their order.
-fn built_rows(alloc: Global, insert: &Insert) -> Result<Built, AllocError>
-    ensures rows { IfOk result (λ built. built.rows.items ≡ insert.now.tuples) }
-    ensures count { IfOk result (λ built. built.count ≡ length insert.now.tuples) }
-{
-    let mut rows = Vec::new(alloc);
-    for tuple in insert.tuples.items() {
-        rows.push(copy_of(tuple)?)?;
-    }
+    let Some(seen) = &ticket.target else {
+        unreachable!()
+    };
+    let rows = stored_rows(alloc, &seen.schema, insert)?;
     Ok(Built {
         count: rows.len() as u64,
         rows,
@@ -63,12 +57,11 @@ fn built_rows(alloc: Global, insert: &Insert) -> Result<Built, AllocError>
 }
 
 fn change_rows(cat: &mut Catalog, alloc: Global, ticket: Ticket, insert: &Insert) -> Reply
-    requires ticket { IsTicketOf cat.old ticket (statement.Insert insert.now) }
-    requires target { IsSome ticket.target }
-    requires printable { All IsPrintable insert.now.tuples }
+    requires ticket { IsTicketOf cat.old ticket (statement.Dml (dml.Insert insert.now)) }
+    requires target { IsFor ticket insert.now }
     ensures { Answers cat.old cat.new ticket.session ticket.index result }
 {
-    let Ok(built) = built_rows(alloc, insert) else {
+    let Ok(built) = added(alloc, &ticket, insert) else {
         abandon(cat, ticket, Told::Memory);
         return Reply::Memory;
     };
@@ -82,7 +75,7 @@ fn change_rows(cat: &mut Catalog, alloc: Global, ticket: Ticket, insert: &Insert
 }
 
 fn run_query(cat: &mut Catalog, session: u32, index: u32, whole: &Statement, query: &Query) -> Reply
-    requires next { next_statement cat.old.program cat.old.store session index ≡ Some whole.now }
+    requires next { next_statement cat.old.program cat.old.store session index ≡ Some (Ok whole.now) }
     requires query { whole.now ≡ statement.Query query.now }
     ensures { Answers cat.old cat.new session index result }
 {
@@ -101,9 +94,9 @@ fn run_insert(
     whole: &Statement,
     insert: &Insert,
 ) -> Reply
-    requires next { next_statement cat.old.program cat.old.store session index ≡ Some whole.now }
-    requires insert { whole.now ≡ statement.Insert insert.now }
-    requires printable { All IsPrintable insert.now.tuples }
+    requires next { next_statement cat.old.program cat.old.store session index ≡ Some (Ok whole.now) }
+    requires insert { whole.now ≡ statement.Dml (dml.Insert insert.now) }
+    requires replayed { IsReplayed cat.old }
     ensures { Answers cat.old cat.new session index result }
 {
     match start(cat, session, index, Ok(whole)) {
@@ -113,21 +106,71 @@ fn run_insert(
     }
 }
 
+// A text that is no statement, or one that is not carried out yet.
+fn refuse_text(cat: &mut Catalog, session: u32, index: u32, syntax: Syntax) -> Reply
+    requires { next_statement cat.old.program cat.old.store session index ≡ Some (Err syntax.place) }
+    ensures { Answers cat.old cat.new session index result }
+{
+    match start(cat, session, index, Err(syntax)) {
+        Started::Refused(refusal) => Reply::Refused(refusal),
+        Started::Memory => unreachable!(),
+        Started::Ticket(
+            Ticket {
+                session: _,
+                index: _,
+                sources: _sources,
+                target: _target,
+            },
+        ) => unreachable!(),
+    }
+}
+
+fn run_change(
+    cat: &mut Catalog,
+    alloc: Global,
+    session: u32,
+    index: u32,
+    whole: &Statement,
+    change: &Dml,
+) -> Reply
+    requires next { next_statement cat.old.program cat.old.store session index ≡ Some (Ok whole.now) }
+    requires change { whole.now ≡ statement.Dml change.now }
+    requires replayed { IsReplayed cat.old }
+    ensures { Answers cat.old cat.new session index result }
+{
+    match change {
+        Dml::Insert(insert) => run_insert(cat, alloc, session, index, whole, insert),
+        _ => unreachable!(),
+    }
+}
+
+fn run_whole(cat: &mut Catalog, alloc: Global, session: u32, index: u32, whole: &Statement) -> Reply
+    requires next { next_statement cat.old.program cat.old.store session index ≡ Some (Ok whole.now) }
+    requires replayed { IsReplayed cat.old }
+    ensures { Answers cat.old cat.new session index result }
+{
+    match whole {
+        Statement::Create(_) => define(cat, session, index, whole),
+        Statement::Dml(change) => run_change(cat, alloc, session, index, whole, change),
+        Statement::Query(query) => run_query(cat, session, index, whole, query),
+        _ => unreachable!(),
+    }
+}
+
 /// Makes the events of a session's next statement, from its first entry to its last.
 pub fn run_statement(
     cat: &mut Catalog,
     alloc: Global,
     session: u32,
     index: u32,
-    whole: &Statement,
+    read: Result<Statement, Syntax>,
 ) -> Reply
-    requires next { next_statement cat.old.program cat.old.store session index ≡ Some whole.now }
-    requires printable { AddsPrintable whole.now }
+    requires next { next_statement cat.old.program cat.old.store session index ≡ Some (as_read read) }
+    requires replayed { IsReplayed cat.old }
     ensures { Answers cat.old cat.new session index result }
 {
-    match whole {
-        Statement::Create(_) => define(cat, session, index, whole),
-        Statement::Insert(insert) => run_insert(cat, alloc, session, index, whole, insert),
-        Statement::Query(query) => run_query(cat, session, index, whole, query),
+    match read {
+        Ok(whole) => run_whole(cat, alloc, session, index, &whole),
+        Err(syntax) => refuse_text(cat, session, index, syntax),
     }
 }

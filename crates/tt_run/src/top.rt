@@ -1,22 +1,22 @@
 //! The top call: from the words and the bytes that come in to the bytes that go out.
 
-ghost use Rattle.std.specs.Prelude.{◌≡◌, ◌<◌, ◌+◌, ◌-◌, ◌^◌, ◌↔◌, ℕ, Some, map, string_bytes, take, length, false, IfOk, IfErr, OnOk, IfSome, OnSome, IfNone, IsSome, IsErrOf};
+ghost use Rattle.std.specs.Prelude.{◌≡◌, ◌<◌, ◌+◌, ◌-◌, ◌^◌, ◌↔◌, ℕ, Ok, Err, Some, map, string_bytes, take, length, false, IfOk, IfErr, OnOk, IfSome, OnSome, IfNone, IsSome, IsErrOf};
 ghost use Rattle.std.specs.Io.KnownBytes.{Appends, IsAtEnd, Keeps};
 ghost use Rattle.tt_edge.specs.Outside.{Rose};
-ghost use Rattle.tt_history.specs.Answers.{Reads};
-ghost use Rattle.tt_history.specs.Script.{program_of};
-ghost use Rattle.tt_history.specs.Replay.{IsLegal, IsComplete};
-ghost use Rattle.tt_history.specs.Transcript.{transcript_of};
-ghost use Rattle.tt_history.specs.ProgramLaws.{WasRead};
-ghost use Rattle.tt_run.specs.Outcomes.{IsFinished, IsTranscript, Stands};
-ghost use Rattle.tt_run.specs.Words.{are_replay_words};
+ghost use Rattle.tt_script.specs.Answers.{Answers};
+ghost use Rattle.tt_script.specs.Script.{answer_of};
+ghost use Rattle.tt_plain.specs.Replay.{IsLegal, IsComplete};
+ghost use Rattle.tt_plain.specs.SerialOrder.{IsSerialOrder};
+ghost use Rattle.tt_plain.specs.Transcript.{transcript_of};
+ghost use Rattle.tt_run.specs.Outcomes.{IsFinished, IsTranscript, InOrder, Stands};
+ghost use Rattle.tt_run.specs.Words.{partition_rows_of, are_replay_words};
 ghost use Rattle.tt_run.specs.Top.{number_of, longest_input, input_status, due_status, IsDue, IsDueOrMemory, IfBadInput, IsEarly, IsLate};
 
 use crate::run::{Finished, run_program};
-use crate::words::is_replay;
+use crate::words::partition_rows;
 use std::alloc::Global;
 use tt_edge::{Sink, Source, Unread, Unwritten, read_all, write_all};
-use tt_history::{Program, ReadError, read};
+use tt_script::{BadInput, Program, ReadError, read};
 use tt_state::Catalog;
 
 /// The most bytes of an input.
@@ -58,22 +58,23 @@ pub struct Outcome {
     pub store: Option<Catalog>,
 }
 
-// Reads the script, and says of the program that it was read.
+// Reads the script. The text of a program is the script.
 fn read_script(alloc: Global, bytes: Vec<u8>) -> Result<Program, ReadError>
     requires { length bytes.items < 2 ^ 32 }
-    ensures read { Reads (λ program. program) result (program_of bytes.items) }
-    ensures was_read { IfOk result WasRead }
+    ensures read { Answers (λ program. program) result (answer_of bytes.items) }
+    ensures short { IfOk result (λ program. length program.text < 2 ^ 32) }
 {
     read(alloc, bytes)
 }
 
 // Reads the input to its end and the script from it.
 fn read_program<S: Source>(alloc: Global, source: &mut S) -> Result<Program, Status>
-    ensures read { IfOk result (λ program. IfSome (S.left source.old) (λ left. program_of left ≡ Some program)) }
-    ensures was_read { IfOk result WasRead }
+    ensures read { IfOk result (λ program. IfSome (S.left source.old) (λ left. answer_of left ≡ Ok program)) }
+    ensures short { IfOk result (λ program. length program.text < 2 ^ 32) }
     ensures end { OnOk result (IsAtEnd (S.left source.new)) }
     ensures early { IfErr result IsEarly }
     ensures bad_input { IfErr result (λ status. IfBadInput status (λ _. IsAtEnd (S.left source.new))) }
+    ensures place { IfErr result (λ status. IfBadInput status (λ place. IfSome (S.left source.old) (λ left. answer_of left ≡ Err place))) }
     ensures due { IfSome (S.left source.old) (λ input. IfErr result (IsDue (input_status input))) }
     ensures due_ok { IfSome (S.left source.old) (λ input. OnOk result (input_status input ≡ Status.Ok)) }
     ensures too_long { IsErrOf result Status.TooLong ↔ (longest_input < S.given source.new - S.given source.old) }
@@ -87,7 +88,7 @@ fn read_program<S: Source>(alloc: Global, source: &mut S) -> Result<Program, Sta
     };
     match read_script(alloc, bytes) {
         Ok(program) => Ok(program),
-        Err(ReadError::Bad) => Err(Status::BadInput(0)),
+        Err(ReadError::Bad(BadInput { place })) => Err(Status::BadInput(place)),
         Err(ReadError::Memory) => Err(Status::OutOfMemory),
     }
 }
@@ -127,7 +128,7 @@ fn finish<K: Sink>(sink: &mut K, finished: Finished) -> Outcome
     }
 }
 
-/// Serves `replay`: reads a script of one session, runs its statements and writes the transcript.
+/// Serves `replay`: reads a script, runs its sessions one after the other and writes the transcript.
 /// Nothing is written before the run is done.
 pub fn top_alone<S: Source, K: Sink>(
     alloc: Global,
@@ -138,7 +139,9 @@ pub fn top_alone<S: Source, K: Sink>(
     // The returned store's history is legal and complete for the program that it keeps, and it stands for it.
     ensures legal { IfSome result.store (λ store. IsLegal store.program store.history) }
     ensures complete { IfSome result.store (λ store. IsComplete store.program store.history) }
+    ensures serial_order { IfSome result.store (λ store. IsSerialOrder store.program store.history) }
     ensures stands { IfSome result.store Stands }
+    ensures rows { IfSome result.store (λ store. partition_rows_of (map string_bytes words.now) ≡ Some store.cap) }
 
     // The bytes written are the transcript, or a prefix of it where writing failed.
     ensures transcript { result.status ≡ Status.Ok → IfSome result.store (λ store.
@@ -152,7 +155,7 @@ pub fn top_alone<S: Source, K: Sink>(
     ensures untouched { IfNone result.store (Keeps (K.holds sink.old) (K.holds sink.new)) }
 
     // The program is what the grammar reads from all that the source gave, to its end.
-    ensures read { IfSome result.store (λ store. IfSome (S.left source.old) (λ left. program_of left ≡ Some store.program)) }
+    ensures read { IfSome result.store (λ store. IfSome (S.left source.old) (λ left. answer_of left ≡ Ok store.program)) }
     ensures end { OnSome result.store (IsAtEnd (S.left source.new)) }
 
     // When there is a store.
@@ -165,7 +168,8 @@ pub fn top_alone<S: Source, K: Sink>(
     ensures words { (result.status ≡ Status.BadWords) ↔ (are_replay_words (map string_bytes words.now) ≡ false) }
     ensures read_fault { result.status ≡ Status.ReadFault → Rose (S.faults source.old) (S.faults source.new) }
     ensures too_long { (result.status ≡ Status.TooLong) ↔ (longest_input < S.given source.new - S.given source.old) }
-    ensures bad_input { IfBadInput result.status (λ place. (place ≡ 0) × IsAtEnd (S.left source.new)) }
+    ensures bad_input { IfBadInput result.status (λ place. IsAtEnd (S.left source.new)
+        × IfSome (S.left source.old) (λ left. answer_of left ≡ Err place)) }
     ensures write_fault { result.status ≡ Status.WriteFault → Rose (K.faults sink.old) (K.faults sink.new) }
 
     // Where the source tells its bytes, the words and the bytes say which status is due. Faults and want of
@@ -175,12 +179,12 @@ pub fn top_alone<S: Source, K: Sink>(
         (Rose (S.faults source.old) (S.faults source.new) → ⊥) → (Rose (K.faults sink.old) (K.faults sink.new) → ⊥)
         → IsDueOrMemory (due_status (map string_bytes words.now) input) result.status) }
 {
-    if !is_replay(words) {
+    let Some(rows) = partition_rows(words) else {
         return Outcome {
             status: Status::BadWords,
             store: None,
         };
-    }
+    };
     let program = match read_program(alloc, source) {
         Ok(program) => program,
         Err(status) => {
@@ -190,7 +194,7 @@ pub fn top_alone<S: Source, K: Sink>(
             };
         }
     };
-    let Ok(finished) = run_program(alloc, &program) else {
+    let Ok(finished) = run_program(alloc, &program, rows) else {
         return Outcome {
             status: Status::OutOfMemory,
             store: None,

@@ -6,19 +6,20 @@ ghost use Rattle.std.specs.Fmt.{decimal, signed_decimal};
 ghost use Rattle.std.specs.List.{flat_map};
 ghost use Rattle.std.specs.Option.{option_copied};
 ghost use Rattle.tt_value.specs.RowText.{IsPrintable};
-ghost use Rattle.tt_history.specs.ReplayLaws.{ends_statement as is_last_entry};
-ghost use Rattle.tt_history.specs.Transcript.{AreReplies, name_of, actor_text, told_text, gone_text, part_text, added_text, report_text, miss_text, kind_text, journal_line, refusal_text, row_line, reply_text, told_reply, end_line, transcript_of};
+ghost use Rattle.tt_plain.specs.Ways.{ends_statement as is_last_entry};
+ghost use Rattle.tt_plain.specs.Transcript.{AreReplies, name_of, actor_text, told_text, gone_text, part_text, added_text, report_text, miss_text, kind_text, journal_line, refusal_text, row_line, reply_text, told_reply, end_line, transcript_of};
 ghost use Rattle.tt_run.specs.AnsweredLines.{next_reply, later_replies, answered_lines};
 
 use itoa::Buffer;
 use std::alloc::{AllocError, Global};
-use tt_history::{Actor, Added, Entry, EntryKind, Miss, Program, Refusal, Reply, Told};
+use tt_history::{Actor, Added, Entry, EntryKind, Miss, Refusal, Reply, Told};
+use tt_script::Script;
 use tt_value::{Row, write_row};
 
 /// The transcript of a history whose statements were answered by these replies, in order.
 pub fn transcript(
     alloc: Global,
-    program: &Program,
+    program: &Script,
     entries: &[Entry],
     replies: &[Reply],
 ) -> Result<Vec<u8>, AllocError>
@@ -32,7 +33,7 @@ pub fn transcript(
 }
 
 fn write_entries(
-    program: &Program,
+    program: &Script,
     entries: &[Entry],
     replies: &[Reply],
     out: &mut Vec<u8>,
@@ -75,8 +76,8 @@ fn ends_statement(kind: &EntryKind) -> bool
     }
 }
 
-#[tactic(auto, unfolding(tt_history::specs::Transcript::journal_line))]
-fn write_journal_line(program: &Program, entry: &Entry, out: &mut Vec<u8>) -> Result<(), AllocError>
+#[tactic(auto, unfolding(tt_plain::specs::Transcript::journal_line))]
+fn write_journal_line(program: &Script, entry: &Entry, out: &mut Vec<u8>) -> Result<(), AllocError>
     ensures ok { OnOk result (out.new.items ≡ out.old.items ++ journal_line program.now entry.now) }
 {
     write_bytes(b"@", out)?;
@@ -91,7 +92,7 @@ fn write_journal_line(program: &Program, entry: &Entry, out: &mut Vec<u8>) -> Re
     Ok(())
 }
 
-fn write_actor(program: &Program, actor: Actor, out: &mut Vec<u8>) -> Result<(), AllocError>
+fn write_actor(program: &Script, actor: Actor, out: &mut Vec<u8>) -> Result<(), AllocError>
     ensures ok { OnOk result (out.new.items ≡ out.old.items ++ actor_text program.now actor) }
 {
     match actor {
@@ -101,7 +102,7 @@ fn write_actor(program: &Program, actor: Actor, out: &mut Vec<u8>) -> Result<(),
     }
 }
 
-fn write_session(program: &Program, session: u32, out: &mut Vec<u8>) -> Result<(), AllocError>
+fn write_session(program: &Script, session: u32, out: &mut Vec<u8>) -> Result<(), AllocError>
     ensures ok { OnOk result (out.new.items
         ≡ out.old.items ++ name_of (slice_get program.now.sessions session)) }
 {
@@ -111,7 +112,7 @@ fn write_session(program: &Program, session: u32, out: &mut Vec<u8>) -> Result<(
     Ok(())
 }
 
-fn write_kind(program: &Program, kind: &EntryKind, out: &mut Vec<u8>) -> Result<(), AllocError>
+fn write_kind(program: &Script, kind: &EntryKind, out: &mut Vec<u8>) -> Result<(), AllocError>
     ensures ok { OnOk result (out.new.items ≡ out.old.items ++ kind_text program.now kind.now) }
 {
     match kind {
@@ -228,7 +229,7 @@ fn write_landing(
     Ok(())
 }
 
-fn write_miss(program: &Program, table: u32, why: Miss, out: &mut Vec<u8>) -> Result<(), AllocError>
+fn write_miss(program: &Script, table: u32, why: Miss, out: &mut Vec<u8>) -> Result<(), AllocError>
     ensures ok { OnOk result (out.new.items
         ≡ out.old.items ++ (codes "missed " ++ decimal table ++ miss_text program.now why)) }
 {
@@ -237,7 +238,7 @@ fn write_miss(program: &Program, table: u32, why: Miss, out: &mut Vec<u8>) -> Re
     Ok(())
 }
 
-fn write_why(program: &Program, why: Miss, out: &mut Vec<u8>) -> Result<(), AllocError>
+fn write_why(program: &Script, why: Miss, out: &mut Vec<u8>) -> Result<(), AllocError>
     ensures ok { OnOk result (out.new.items ≡ out.old.items ++ miss_text program.now why) }
 {
     match why {
@@ -249,7 +250,7 @@ fn write_why(program: &Program, why: Miss, out: &mut Vec<u8>) -> Result<(), Allo
     }
 }
 
-fn write_held(program: &Program, session: u32, out: &mut Vec<u8>) -> Result<(), AllocError>
+fn write_held(program: &Script, session: u32, out: &mut Vec<u8>) -> Result<(), AllocError>
     ensures ok { OnOk result (out.new.items
         ≡ out.old.items ++ miss_text program.now (Miss.Held session)) }
 {
@@ -277,7 +278,7 @@ fn write_told(told: Told, out: &mut Vec<u8>) -> Result<(), AllocError>
 }
 
 fn write_told_reply(
-    program: &Program,
+    program: &Script,
     reply: Option<&Reply>,
     out: &mut Vec<u8>,
 ) -> Result<(), AllocError>
@@ -290,8 +291,8 @@ fn write_told_reply(
     }
 }
 
-#[tactic(auto, unfolding(tt_history::specs::Transcript::reply_text))]
-fn write_reply(program: &Program, reply: &Reply, out: &mut Vec<u8>) -> Result<(), AllocError>
+#[tactic(auto, unfolding(tt_plain::specs::Transcript::reply_text))]
+fn write_reply(program: &Script, reply: &Reply, out: &mut Vec<u8>) -> Result<(), AllocError>
     ensures ok { OnOk result (out.new.items ≡ out.old.items ++ reply_text program.now reply.now) }
 {
     match reply {
@@ -338,7 +339,7 @@ fn write_row_line(row: &Row, out: &mut Vec<u8>) -> Result<(), AllocError>
 }
 
 /// The name of the session that holds the table.
-fn write_holder(program: &Program, session: u32, out: &mut Vec<u8>) -> Result<(), AllocError>
+fn write_holder(program: &Script, session: u32, out: &mut Vec<u8>) -> Result<(), AllocError>
     ensures ok { OnOk result (out.new.items
         ≡ out.old.items ++ refusal_text program.now (Refusal.LockHeld session)) }
 {
@@ -347,7 +348,7 @@ fn write_holder(program: &Program, session: u32, out: &mut Vec<u8>) -> Result<()
     Ok(())
 }
 
-fn write_refusal(program: &Program, refusal: &Refusal, out: &mut Vec<u8>) -> Result<(), AllocError>
+fn write_refusal(program: &Script, refusal: &Refusal, out: &mut Vec<u8>) -> Result<(), AllocError>
     ensures ok { OnOk result (out.new.items ≡ out.old.items ++ refusal_text program.now refusal.now) }
 {
     match refusal {
@@ -393,7 +394,7 @@ fn write_refusal(program: &Program, refusal: &Refusal, out: &mut Vec<u8>) -> Res
     }
 }
 
-#[tactic(auto, unfolding(tt_history::specs::Transcript::end_line))]
+#[tactic(auto, unfolding(tt_plain::specs::Transcript::end_line))]
 fn write_end(count: usize, out: &mut Vec<u8>) -> Result<(), AllocError>
     ensures ok { OnOk result (out.new.items ≡ out.old.items ++ end_line count) }
 {

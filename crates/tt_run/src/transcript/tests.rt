@@ -4,23 +4,23 @@ ghost use Rattle.tt_value.specs.RowText.{IsPrintable};
 use super::{transcript, write_end, write_entries, write_journal_line, write_reply};
 use std::alloc::Global;
 use std::test::Fail;
-use tt_history::{
-    Actor, Added, Entry, EntryKind, Miss, Program, Refusal, Reply, ScriptText, SessionText,
-    SharedBag, Told,
-};
+use tt_history::{Actor, Added, Entry, EntryKind, Miss, Refusal, Reply, SharedBag, Told};
+use tt_script::{Script, ScriptText, SessionText};
 use tt_value::{Bag, Row, Sequence, Text, Value};
 
 /// A program with one session, `a`.
-fn program(alloc: Global) -> Result<Program, Fail> {
+fn program(alloc: Global) -> Result<Script, Fail> {
     let mut sessions = Sequence::new(alloc);
     sessions.push(SessionText {
         name: Text::from_str(alloc, "a")?,
         statements: Sequence::new(alloc),
     })?;
-    Ok(Program {
+    Ok(Script {
         start: 0,
-        text: ScriptText::new(alloc, String::new(alloc))?,
+        text: ScriptText::new(String::new(alloc)),
         sessions,
+        files: Sequence::new(alloc),
+        turns: Sequence::new(alloc),
     })
 }
 

@@ -14,4 +14,4 @@ returns-in-Ticket c =
     let given = c.in-Ticket.ensures.ticket in
     let at_index = subst (λ i. Answers c.start.new.cat c.answer_query.new.cat c.in-Ticket.ticket.session i c.answer_query.result) given.1 c.answer_query.ensures in
     let answered = subst (λ s. Answers c.start.new.cat c.answer_query.new.cat s c.args.index c.answer_query.result) given.0 at_index in
-    then_answers _ _ _ _ _ _ (made_goes_on _ _ _ c.in-Ticket.ensures.entry.1) answered
+    then_answers _ _ _ _ _ _ (made_goes_on _ _ _ _ _ c.in-Ticket.ensures.entry.1) answered

@@ -1,6 +1,6 @@
 use Rattle.std.proofs.Common.{◌≡◌, ◌++◌, append_assoc}
 use Rattle.std.specs.Prelude.{codes, slice_get}
-use Rattle.tt_history.specs.Transcript.{name_of}
+use Rattle.tt_plain.specs.Transcript.{name_of}
 use Rattle.tt_run.proofs.transcript.write_holder.Goals as goal
 
 pub returns : goal.returns

@@ -1,6 +1,6 @@
 -- Nine appends, one after another.
 use Rattle.std.proofs.Common.{append_assoc}
-use Rattle.tt_history.specs.Transcript.{journal_line}
+use Rattle.tt_plain.specs.Transcript.{journal_line}
 use Rattle.tt_run.proofs.transcript.write_journal_line.Goals as goal
 
 pub returns : goal.returns

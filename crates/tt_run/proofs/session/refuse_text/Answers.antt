@@ -1,0 +1,5 @@
+use Rattle.tt_run.specs.TurnsLaws.{made_answers}
+use Rattle.tt_run.proofs.session.refuse_text.Goals as goal
+
+pub returns : goal.returns
+returns c = made_answers _ _ _ _ _ _ c.in-Refused.ensures.entry.1

@@ -1,0 +1,57 @@
+//! What a statement's text says: its statement, or the place of its fault.
+
+ghost use Rattle.std.specs.Prelude.{◌≡◌, ◌<◌, ◌^◌, length, IfOk};
+ghost use Rattle.tt_sql.specs.StatementOf.{fault_place as place_of, statement_of};
+ghost use Rattle.tt_plain.specs.Statements.{carried_out};
+ghost use Rattle.tt_run.specs.Reading.{as_read};
+
+use std::alloc::{AllocError, Global};
+use tt_lex::{LexFault, TokensError, tokens};
+use tt_parse::{ParseError, parse};
+use tt_sql::built::built;
+use tt_sql::{Statement, Syntax};
+
+fn fault_place(fault: LexFault) -> u32
+    ensures { result ≡ place_of fault }
+{
+    match fault {
+        LexFault::BadByte(place) => place,
+        LexFault::UnclosedText(place) => place,
+        LexFault::UnclosedComment(place) => place,
+        LexFault::BackslashInText(place) => place,
+        LexFault::TextTooLong(place) => place,
+    }
+}
+
+/// The statement of a text, or the place of its fault.
+#[tactic(auto, unfolding(tt_sql::specs::StatementOf::statement_of))]
+pub fn read_statement(alloc: Global, text: &str) -> Result<Result<Statement, Syntax>, AllocError>
+    requires { length text.now < 2 ^ 32 }
+    ensures { IfOk result (λ read. as_read read ≡ statement_of text.now) }
+{
+    let tokens = match tokens(alloc, text) {
+        Ok(tokens) => tokens,
+        Err(TokensError::Lex(fault)) => {
+            let place = fault_place(fault);
+            return Ok(Err(Syntax { place }));
+        }
+        Err(TokensError::Memory) => return Err(AllocError),
+    };
+    match parse(alloc, text, tokens.as_slice()) {
+        Ok(statement) => Ok(Ok(statement)),
+        Err(ParseError::Syntax(syntax)) => Ok(Err(syntax)),
+        Err(ParseError::Memory) => Err(AllocError),
+    }
+}
+
+/// What becomes of what was read: a statement that uses a part which is not built yet is refused like a
+/// text that is none, at place 0.
+pub fn carried(read: Result<Statement, Syntax>) -> Result<Statement, Syntax>
+    ensures { as_read result ≡ carried_out (as_read read) }
+{
+    match read {
+        Ok(statement) if built(&statement) => Ok(statement),
+        Ok(_) => Err(Syntax { place: 0 }),
+        Err(syntax) => Err(syntax),
+    }
+}
