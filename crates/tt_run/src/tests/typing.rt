@@ -1,7 +1,7 @@
 //! What is refused of statements, as they are written, for their columns, counts, kinds and NULLs.
 
-ghost use Rattle.std.specs.Prelude.{◌≡◌, true};
-ghost use Rattle.tt_plain.specs.Tables.{IsOverOneTable};
+ghost use Rattle.std.specs.Prelude.{◌≡◌, true, length, []};
+ghost use Rattle.tt_plain.specs.Tables.{tables_of, dml_tables, IsOverOneTable, ReadsOneTable};
 
 use std::alloc::{AllocError, Global};
 use std::process::Abort;
@@ -9,7 +9,7 @@ use std::test::Fail;
 use tt_history::Refusal;
 use tt_lex::tokens;
 use tt_parse::{ParseError, parse};
-use tt_sql::{Dml, InsertSource, Statement};
+use tt_sql::{Change, Dml, InsertSource, Query, Statement};
 use tt_typer::check;
 use tt_value::{Column, Kind, Schema, Sequence, Text};
 
@@ -82,17 +82,43 @@ fn statement_of<R: Abort + AllocGlobal>(rt: &R, text: &str) -> Result<Statement,
     }
 }
 
-fn is_over_one_table(statement: &Statement) -> bool
-    ensures { result ≡ true → IsOverOneTable statement.now }
+fn is_alone(query: &Query) -> bool
+    ensures { result ≡ true → query.now.joins ≡ [] }
+{
+    query.joins.is_empty()
+}
+
+/// Whether a change names so many tables, each query one.
+fn change_names(dml: &Dml, count: usize) -> bool
+    ensures tables { result ≡ true → count ≡ length (dml_tables dml.now) }
+    ensures alone { result ≡ true → ReadsOneTable dml.now }
+{
+    match dml {
+        Dml::Insert(insert) => match &insert.source {
+            InsertSource::Query(query) => is_alone(query) && count == 2,
+            InsertSource::Values(_) => count == 1,
+        },
+        Dml::Update(_) => count == 1,
+        Dml::Delete(_) => count == 1,
+        Dml::Copy(_) => count == 1,
+    }
+}
+
+/// Whether a statement names so many tables, each query one.
+fn names(statement: &Statement, count: usize) -> bool
+    ensures tables { result ≡ true → count ≡ length (tables_of statement.now) }
+    ensures alone { result ≡ true → IsOverOneTable statement.now }
 {
     match statement {
-        Statement::Query(query) => query.joins.is_empty(),
-        Statement::Explain(query) => query.joins.is_empty(),
-        Statement::Dml(Dml::Insert(insert)) => match &insert.source {
-            InsertSource::Query(query) => query.joins.is_empty(),
-            InsertSource::Values(_) => true,
+        Statement::Query(query) => is_alone(query) && count == 1,
+        Statement::Explain(query) => is_alone(query) && count == 1,
+        Statement::Dml(dml) => change_names(dml, count),
+        Statement::Create(_) => count == 0,
+        Statement::Alter(alter) => match &alter.change {
+            Change::ClusterBy(_) => count == 1,
+            _ => false,
         },
-        _ => true,
+        _ => false,
     }
 }
 
@@ -104,7 +130,7 @@ fn assert_found<R: Abort + AllocGlobal>(
     for (text, tables, wanted) in table {
         let statement = statement_of(rt, text)?;
         let list = schemas(rt.alloc(), tables)?;
-        assert!(rt; is_over_one_table(&statement));
+        assert!(rt; names(&statement, list.len()), "in {text}");
         assert_eq!(rt; check(&statement, &list).err(), *wanted, "in {text}");
     }
     Ok(())
