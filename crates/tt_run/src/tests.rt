@@ -338,14 +338,21 @@ fn other_words_are_bad_and_nothing_is_read(rt: HostRuntime) -> Result<(), Fail> 
 }
 
 #[test]
-fn an_input_of_67_108_865_bytes_is_too_long(rt: HostRuntime) -> Result<(), Fail> {
-    let mut bytes = Vec::new(rt.alloc());
-    bytes.resize(67_108_865, b' ')?;
-    let mut source = MemorySource::new(bytes, Vec::new(rt.alloc()));
-    let mut sink = MemorySink::new(rt.alloc(), Vec::new(rt.alloc()));
-    let answer = called(rt.alloc(), &mut source, &mut sink)?;
-    assert!(rt; answer == (Status::TooLong, false));
-    assert_eq!(rt; sink.calls(), 0);
+fn an_input_has_at_most_67_108_864_bytes(rt: HostRuntime) -> Result<(), Fail> {
+    let rows: [(usize, Status, &[u8]); 2] = [
+        (67_108_864, Status::Ok, b"%end 0\n"),
+        (67_108_865, Status::TooLong, b""),
+    ];
+    for (length, status, transcript) in rows {
+        let mut bytes = Vec::new(rt.alloc());
+        bytes.resize(length, b' ')?;
+        let mut source = MemorySource::new(bytes, Vec::new(rt.alloc()));
+        let mut sink = MemorySink::new(rt.alloc(), Vec::new(rt.alloc()));
+        let (answer, has_store) = called(rt.alloc(), &mut source, &mut sink)?;
+        assert!(rt; answer == status, "{length}");
+        assert!(rt; sink.bytes() == transcript, "{length}");
+        assert_eq!(rt; has_store, status == Status::Ok);
+    }
     Ok(())
 }
 
