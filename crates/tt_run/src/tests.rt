@@ -357,6 +357,18 @@ fn an_input_has_at_most_67_108_864_bytes(rt: HostRuntime) -> Result<(), Fail> {
 }
 
 #[test]
+fn a_comment_may_be_as_long_as_the_input(rt: HostRuntime) -> Result<(), Fail> {
+    let mut bytes = Vec::from_slice(rt.alloc(), b"%session a\n/*")?;
+    bytes.resize(67_108_864, b'x')?;
+    let mut source = MemorySource::new(bytes, Vec::new(rt.alloc()));
+    let mut sink = MemorySink::new(rt.alloc(), Vec::new(rt.alloc()));
+    let answer = called(rt.alloc(), &mut source, &mut sink)?;
+    assert!(rt; answer == (Status::Ok, true));
+    assert!(rt; sink.bytes() == b"%end 0\n".as_slice());
+    Ok(())
+}
+
+#[test]
 fn each_failed_read_is_told_and_nothing_is_written(rt: HostRuntime) -> Result<(), Fail> {
     let alloc = rt.alloc();
     for limit in [1, 2, 7, usize::MAX] {
