@@ -2,12 +2,12 @@
 use Rattle.std.proofs.Common.{◌≡◌, true, false, List, [], Option, Result, Ok, Err, sym, subst}
 use Rattle.std.specs.Result.{IsErrAnd}
 use Rattle.tt_sql.specs.Grammar.{Mark, Gram, Either}
-use Rattle.tt_parse.specs.declared.error.ParseError.{ParseError}
-use Rattle.tt_parse.specs.declared.rest.Rest.{Rest}
-use Rattle.tt_parse.specs.Fronts.{begins, solid}
-use Rattle.tt_parse.specs.Reading.{Errs, first_kind}
+use Rattle.tt_terminal.specs.declared.error.ParseError.{ParseError}
+use Rattle.tt_terminal.specs.declared.rest.Rest.{Rest}
+use Rattle.tt_terminal.specs.Fronts.{begins, solid}
+use Rattle.tt_terminal.specs.Reading.{Errs, first_kind}
 use Rattle.tt_parse.specs.Choices.{Skips, Chooses}
-use Rattle.tt_parse.proofs.Steps.{passes_right, stops_right}
+use Rattle.tt_terminal.proofs.Steps.{passes_right, stops_right}
 
 -- none is left
 pub skips_none : {r : Rest} → Skips (λ others. others) r

@@ -11,10 +11,10 @@ use Rattle.tt_lex.specs.declared.TokenKind.TheVariants as kinds
 use Rattle.tt_lex.specs.Lexis.{Piece, Word, Number, Quoted, Sign, Blank, LineComment, BlockComment, is_quote, doubled, spelling, kind_of, text_of, AreInOrder, IsBetweenCharacters, IsSpelled}
 use Rattle.tt_sql.specs.Grammar.{Lexeme}
 use Rattle.tt_sql.specs.TokenKinds.{lexeme, lexemes, unquoted}
-use Rattle.tt_parse.specs.declared.rest.Lexed.{Lexed}
+use Rattle.tt_terminal.specs.declared.rest.Lexed.{Lexed}
 use Rattle.tt_parse.specs.Lexing.{IsToken}
-use Rattle.tt_parse.specs.Reading.{IsOf, seen_as}
-use Rattle.tt_parse.proofs.Quotes.{unquoted_spelling}
+use Rattle.tt_terminal.specs.Reading.{IsOf, seen_as}
+use Rattle.tt_terminal.proofs.Quotes.{unquoted_spelling}
 
 -- ---- what a quoted text means is a text
 

@@ -14,11 +14,11 @@ use Rattle.tt_sql.specs.Grammar.{Said, Lexeme, Note, is_of}
 use Rattle.tt_sql.specs.FrontLaws.{false≢true, and_join, or_split}
 use Rattle.tt_sql.specs.Parts.{as_quoted_name, is_unit_text, quoted_name}
 use Rattle.tt_sql.specs.TokenKinds.{DATE_TEXT, TIME_TEXT, UNIT_TEXT, NAME_TEXT, OTHER_TEXT, is_name, is_quoted, is_word, text_kind, unit_words, unquoted, upper, word_kind}
-use Rattle.tt_parse.specs.declared.rest.Rest.{Rest}
-use Rattle.tt_parse.specs.Reading.{IsOf, IsKnown, IsQuoted, Passes, seen_as, first_kind}
-use Rattle.tt_parse.proofs.Quotes.{quoted_kind_is, quoted_says}
-use Rattle.tt_parse.proofs.Steps.{first_is_of, takes_kind, passes_token, passes_noted}
-use Rattle.tt_parse.proofs.Words.{all_printable, starts}
+use Rattle.tt_terminal.specs.declared.rest.Rest.{Rest}
+use Rattle.tt_terminal.specs.Reading.{IsOf, IsKnown, IsQuoted, Passes, seen_as, first_kind}
+use Rattle.tt_terminal.proofs.Quotes.{quoted_kind_is, quoted_says}
+use Rattle.tt_terminal.proofs.Steps.{first_is_of, takes_kind, passes_token, passes_noted}
+use Rattle.tt_terminal.proofs.Words.{all_printable, starts}
 
 name_of_kind : (a b c d : Bool) → is_of NAME_TEXT is_unit_text (if a then DATE_TEXT else (if b then TIME_TEXT else (if c then UNIT_TEXT else (if d then NAME_TEXT else OTHER_TEXT)))) ≡ true → (c || d) ≡ true
 name_of_kind true b c d e = absurd (false≢true e)

@@ -5,12 +5,12 @@ use Rattle.tt_sql.specs.declared.statement.Statement.{Statement}
 use Rattle.tt_sql.specs.Grammar.{Lexeme, Mark, Gram}
 use Rattle.tt_sql.specs.Read.{read_statement}
 use Rattle.tt_sql.specs.GrammarLaws.{read_run}
-use Rattle.tt_parse.specs.declared.error.ParseError.{ParseError}
-use Rattle.tt_parse.specs.declared.error.ParseError.TheVariants.{Syntax, Memory}
-use Rattle.tt_parse.specs.declared.rest.Lexed.{Lexed}
-use Rattle.tt_parse.specs.declared.rest.Rest.{Rest}
-use Rattle.tt_parse.specs.Fronts.{front_place}
-use Rattle.tt_parse.specs.Reading.{Passes, Errs, ReadsBehind, seen, seen_as, first_place}
+use Rattle.tt_terminal.specs.declared.error.ParseError.{ParseError}
+use Rattle.tt_terminal.specs.declared.error.ParseError.TheVariants.{Syntax, Memory}
+use Rattle.tt_terminal.specs.declared.rest.Lexed.{Lexed}
+use Rattle.tt_terminal.specs.declared.rest.Rest.{Rest}
+use Rattle.tt_terminal.specs.Fronts.{front_place}
+use Rattle.tt_terminal.specs.Reading.{Passes, Errs, ReadsBehind, seen, seen_as, first_place}
 use Rattle.tt_parse.specs.Choices.{Skips}
 use Rattle.tt_parse.specs.Answers.{Says}
 use Rattle.tt_parse.proofs.Whole.{says_more, says_fault}

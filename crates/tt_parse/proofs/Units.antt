@@ -8,11 +8,11 @@ use Rattle.tt_sql.specs.TokenKinds.{DATE_TEXT, TIME_TEXT, UNIT_TEXT, NAME_TEXT, 
 use Rattle.tt_sql.specs.Parts.{as_unit, one, ◌▸◌}
 use Rattle.tt_sql.specs.StatementMarks.{unit_number}
 use Rattle.tt_sql.specs.declared.statement.TimeUnit.{TimeUnit}
-use Rattle.tt_parse.specs.declared.rest.Rest.{Rest}
-use Rattle.tt_parse.specs.Reading.{IsOf, IsKnown, IsQuoted, Passes, first_kind}
+use Rattle.tt_terminal.specs.declared.rest.Rest.{Rest}
+use Rattle.tt_terminal.specs.Reading.{IsOf, IsKnown, IsQuoted, Passes, first_kind}
 use Rattle.tt_parse.specs.Tables.{IsUnit}
-use Rattle.tt_parse.proofs.Quotes.{quoted_kind_is, quoted_says}
-use Rattle.tt_parse.proofs.Steps.{first_is_of, takes_kind, passes_token, passes_noted, is_of_one}
+use Rattle.tt_terminal.proofs.Quotes.{quoted_kind_is, quoted_says}
+use Rattle.tt_terminal.proofs.Steps.{first_is_of, takes_kind, passes_token, passes_noted, is_of_one}
 
 unit_of_kind : (a b c d : Bool) → (if a then DATE_TEXT else (if b then TIME_TEXT else (if c then UNIT_TEXT else (if d then NAME_TEXT else OTHER_TEXT)))) ≡ UNIT_TEXT → c ≡ true
 unit_of_kind true b c d e = absurd (omega (arith, e))

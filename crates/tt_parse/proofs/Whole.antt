@@ -12,10 +12,10 @@ use Rattle.tt_sql.specs.GrammarLaws.{read_run, statement_ok, statement_err, lexe
 use Rattle.tt_sql.specs.StatementGiven.{IsGivenStatement}
 use Rattle.tt_sql.specs.StatementOf.{IsTextOf, most_levels, statement_of}
 use Rattle.tt_sql.specs.StatementOfLaws.{found_fault, found_statement, is_fault_of, is_text_of}
-use Rattle.tt_parse.specs.declared.error.ParseError.{ParseError}
-use Rattle.tt_parse.specs.declared.error.ParseError.TheVariants.{Syntax, Memory}
-use Rattle.tt_parse.specs.declared.rest.Rest.{Rest}
-use Rattle.tt_parse.specs.Reading.{Passes, Fails, seen}
+use Rattle.tt_terminal.specs.declared.error.ParseError.{ParseError}
+use Rattle.tt_terminal.specs.declared.error.ParseError.TheVariants.{Syntax, Memory}
+use Rattle.tt_terminal.specs.declared.rest.Rest.{Rest}
+use Rattle.tt_terminal.specs.Reading.{Passes, Fails, seen}
 use Rattle.tt_parse.specs.Answers.{Answers, IsAtFault, Says}
 
 -- ---- to the text

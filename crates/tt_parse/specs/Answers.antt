@@ -5,8 +5,8 @@ use Rattle.tt_sql.specs.Grammar.{Lexeme}
 use Rattle.tt_sql.specs.StatementMarks.{statement_marks}
 use Rattle.tt_sql.specs.GrammarLaws.{read_run}
 use Rattle.tt_sql.specs.StatementOf.{HasSyntaxFault}
-use Rattle.tt_parse.specs.declared.error.ParseError.{ParseError}
-use Rattle.tt_parse.specs.declared.error.ParseError.TheVariants.{Syntax, Memory}
+use Rattle.tt_terminal.specs.declared.error.ParseError.{ParseError}
+use Rattle.tt_terminal.specs.declared.error.ParseError.TheVariants.{Syntax, Memory}
 
 -- The result is this statement or the place of this fault, or there is no memory.
 abbrev pub Answers : Result Statement ParseError → Result Statement ℕ → Type 0

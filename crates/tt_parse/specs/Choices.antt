@@ -5,9 +5,9 @@ use Rattle.tt_sql.specs.TokenKinds.{EXPLAIN}
 use Rattle.tt_sql.specs.Parts.{one, way, ◌▸◌, ◌∣◌}
 use Rattle.tt_sql.specs.Read.{read_create, read_delete, read_insert, read_query, read_update}
 use Rattle.tt_sql.specs.Written.{copy, drop_table, undrop, truncate, alter, begin, commit, rollback, show, wait}
-use Rattle.tt_parse.specs.declared.error.ParseError.{ParseError}
-use Rattle.tt_parse.specs.declared.rest.Rest.{Rest}
-use Rattle.tt_parse.specs.Reading.{Passes, Fails, Errs}
+use Rattle.tt_terminal.specs.declared.error.ParseError.{ParseError}
+use Rattle.tt_terminal.specs.declared.rest.Rest.{Rest}
+use Rattle.tt_terminal.specs.Reading.{Passes, Fails, Errs}
 
 -- None of these alternatives begins here: the choice is what follows them.
 pub record Skips (part : Gram → Gram) (r : Rest) : Type 0 where

@@ -1,12 +1,4 @@
 pub mod Answers
 pub mod Choices
-pub mod Counted
-pub mod Factors
-pub mod Fronts
-pub mod KindNumbers
 pub mod Lexing
-pub mod Predicates
-pub mod QueryEnds
-pub mod Reading
-pub mod Selects
 pub mod Tables

@@ -5,8 +5,8 @@ use Rattle.std.specs.Borrow.{Bor}
 use Rattle.tt_sql.specs.TokenKinds.{place_in, unit_words, upper}
 use Rattle.tt_sql.specs.StatementMarks.{unit_number}
 use Rattle.tt_sql.specs.declared.statement.TimeUnit.{TimeUnit}
-use Rattle.tt_parse.specs.declared.kind.LexemeKind.{LexemeKind}
-use Rattle.tt_parse.specs.KindNumbers.{kind_number}
+use Rattle.tt_terminal.specs.declared.kind.LexemeKind.{LexemeKind}
+use Rattle.tt_terminal.specs.KindNumbers.{kind_number}
 
 abbrev pub Entry : Type 0
 Entry = Bor (List ℕ) × LexemeKind

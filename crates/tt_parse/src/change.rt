@@ -1,31 +1,30 @@
 //! Readers of statements that change rows.
 
-ghost use Rattle.std.specs.Prelude.{◌≤◌, [], ◌∷◌, ◌++◌, length, map, IfOk, ⊤};
+ghost use Rattle.std.specs.Prelude.{map, IfOk, ⊤};
 ghost use Rattle.tt_sql.specs.ChangeMarks.{copy_marks, delete_marks, insert_marks, insert_source_marks, names_marks, set_marks, tuple_marks, update_marks};
-ghost use Rattle.tt_sql.specs.Marks.{listed_marks, literal_marks, maybe_marks, name_marks};
+ghost use Rattle.tt_sql.specs.Marks.{listed_marks, maybe_marks};
 ghost use Rattle.tt_sql.specs.QueryGiven.{IsListed, WhenThere};
 ghost use Rattle.tt_sql.specs.StatementGiven.{IsGivenDml, IsGivenInsertSource, IsGivenSet, IsGivenTuple};
 ghost use Rattle.tt_sql.specs.declared.change.Dml.TheVariants as dml;
-ghost use Rattle.tt_value.specs.RowText.{IsPrintableValue};
 ghost use Rattle.tt_sql.specs.Parts.{brackets, listed, maybe, name as name_part, one, way, ◌▸◌, ◌∣◌};
 ghost use Rattle.tt_sql.specs.Read.{read_delete, read_insert, read_query, read_set, read_update};
 ghost use Rattle.tt_sql.specs.TokenKinds.{VALUES};
-ghost use Rattle.tt_sql.specs.Written.{copy, literal as literal_part, tuple};
-ghost use Rattle.tt_parse.specs.Reading.{IsKnown, Reads};
+ghost use Rattle.tt_sql.specs.Written.{copy, tuple};
+ghost use Rattle.tt_terminal.specs.Reading.{IsKnown, Reads};
 
-use crate::error::ParseError;
-use crate::expression::expr_of;
-use crate::fixed::{after, place_of};
-use crate::kind::LexemeKind;
-use crate::literal::literal_of;
-use crate::name::{name_of, table_of};
-use crate::predicate::filter_of;
-use crate::query::query_of;
-use crate::quoted::quoted_of;
-use crate::rest::Rest;
 use sqlite_items::Items;
 use std::alloc::Global;
-use tt_sql::{Copy, Delete, Insert, InsertSource, Literal, Name, Set, Tuple, Update};
+use tt_phrase::expression::expr_of;
+use tt_phrase::literals::literals_of;
+use tt_phrase::predicate::filter_of;
+use tt_phrase::query::query_of;
+use tt_sql::{Copy, Delete, Insert, InsertSource, Name, Set, Tuple, Update};
+use tt_terminal::error::ParseError;
+use tt_terminal::fixed::{after, place_of};
+use tt_terminal::kind::LexemeKind;
+use tt_terminal::name::{name_of, table_of};
+use tt_terminal::quoted::quoted_of;
+use tt_terminal::rest::Rest;
 
 /// The names in a list of columns.
 fn names_of<'a>(alloc: Global, rest: Rest<'a>) -> Result<(Items<Name>, Rest<'a>), ParseError>
@@ -59,26 +58,6 @@ fn optional_names<'a>(
     let (names, rest) = names_of(alloc, rest)?;
     let rest = after(LexemeKind::Close, rest)?;
     Ok((Some(names), rest))
-}
-
-/// The literals of a tuple.
-pub fn literals_of<'a>(
-    alloc: Global,
-    rest: Rest<'a>,
-) -> Result<(Items<Literal>, Rest<'a>), ParseError>
-    requires { IsKnown rest }
-    ensures reads { Reads (λ x. listed_marks (map literal_marks x.0)) (λ x. x.1) (listed literal_part) rest.entry result }
-    ensures given { IfOk result (λ x. IsListed (λ l. IsPrintableValue l.value) x.0) }
-{
-    let (first, mut rest) = literal_of(alloc, rest)?;
-    let mut literals = Items::new(alloc);
-    literals.push(first)?;
-    while let Some(behind) = rest.word(LexemeKind::Comma) {
-        let (next, behind) = literal_of(alloc, behind)?;
-        literals.push(next)?;
-        rest = behind;
-    }
-    Ok((literals, rest))
 }
 
 /// The values of a row, in brackets.

@@ -1,13 +1,13 @@
 //! The words and signs of the language with their kinds.
 
-ghost use Rattle.std.specs.Prelude.{◌≡◌, ◌<◌, ◌+◌, true, length, map, MatchOption};
+ghost use Rattle.std.specs.Prelude.{◌≡◌, ◌<◌, ◌+◌, true, length, MatchOption};
 ghost use Rattle.std.specs.List.{list_all};
 ghost use Rattle.tt_sql.specs.TokenKinds.{place_in, upper, word_kind, sign_kind};
 ghost use Rattle.tt_parse.specs.Tables.{Stands, words_of, is_upper};
-ghost use Rattle.tt_parse.specs.KindNumbers.{kind_number};
+ghost use Rattle.tt_terminal.specs.KindNumbers.{kind_number};
 ghost use Rattle.tt_lex.specs.Lexis.{is_sign};
 
-use crate::kind::LexemeKind;
+use tt_terminal::kind::LexemeKind;
 
 /// The most bytes that a name may have.
 const LONGEST_NAME: usize = 64;

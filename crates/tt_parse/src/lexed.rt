@@ -7,18 +7,18 @@ ghost use Rattle.std.specs.Str.{IsUtf8};
 ghost use Rattle.tt_lex.specs.Lexis.{is_word_start, is_word_part};
 ghost use Rattle.tt_value.specs.TextValue.{IsText};
 ghost use Rattle.tt_sql.specs.TokenKinds.{is_word as is_word_text, number_kind, text_kind, unquoted as unquoted_bytes};
-ghost use Rattle.tt_parse.specs.KindNumbers.{kind_number};
+ghost use Rattle.tt_terminal.specs.KindNumbers.{kind_number};
 ghost use Rattle.tt_parse.specs.Lexing.{IsToken};
-ghost use Rattle.tt_parse.specs.Reading.{IsOf};
+ghost use Rattle.tt_terminal.specs.Reading.{IsOf};
 
 use crate::keywords::{sign_kind_of, word_kind_of};
-use crate::kind::LexemeKind;
-use crate::name::{bytes_of, value_of};
-use crate::quoted::unquoted;
-use crate::rest::Lexed;
 use crate::wait::unit_of;
 use std::alloc::{AllocError, Global};
 use tt_lex::{Token, TokenKind};
+use tt_terminal::kind::LexemeKind;
+use tt_terminal::name::{bytes_of, value_of};
+use tt_terminal::quoted::unquoted;
+use tt_terminal::rest::Lexed;
 use tt_time::{read_date, read_timestamp};
 
 /// The most digits of a short number.

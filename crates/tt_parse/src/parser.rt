@@ -5,16 +5,16 @@ ghost use Rattle.tt_lex.specs.TokensOf.{tokens_of};
 ghost use Rattle.tt_sql.specs.StatementGiven.{IsGivenStatement};
 ghost use Rattle.tt_sql.specs.StatementOf.{IsTextOf, statement_of};
 ghost use Rattle.tt_parse.specs.Answers.{Answers, IsAtFault, Says};
-ghost use Rattle.tt_parse.specs.Reading.{IsKnown, seen};
+ghost use Rattle.tt_terminal.specs.Reading.{IsKnown, seen};
 
-use crate::error::ParseError;
 use crate::lexed::lexed;
-use crate::rest::Rest;
 use crate::statement::statement_of;
 use std::alloc::Global;
 use tt_lex::Token;
 use tt_lex::laws::{tokens_of_a_text, tokens_stand_in_their_text};
 use tt_sql::Statement;
+use tt_terminal::error::ParseError;
+use tt_terminal::rest::Rest;
 
 /// How many levels of brackets, NOTs and minuses a statement may have.
 const LEVELS: u32 = 256;

@@ -11,18 +11,18 @@ ghost use Rattle.tt_sql.specs.SelectLaws.{begins_with};
 ghost use Rattle.tt_sql.specs.StatementGiven.{IsGivenStatement};
 ghost use Rattle.tt_sql.specs.StatementMarks.{statement_marks};
 ghost use Rattle.tt_sql.specs.TokenKinds.{EXPLAIN};
-ghost use Rattle.tt_parse.specs.Reading.{IsKnown, Reads, seen};
-ghost use Rattle.tt_parse.specs.Selects.{Follow, ReadsIf, depth_kinds, view_kinds};
+ghost use Rattle.tt_terminal.specs.Reading.{IsKnown, Reads, seen};
+ghost use Rattle.tt_phrase.specs.Selects.{Follow, ReadsIf, depth_kinds, view_kinds};
 
-use crate::error::ParseError;
-use crate::fixed::{after, either_word};
-use crate::kind::LexemeKind;
-use crate::name::upper_text;
-use crate::query::query_of;
-use crate::quoted::optional_quoted;
-use crate::rest::Rest;
 use std::alloc::Global;
+use tt_phrase::query::query_of;
 use tt_sql::{Name, Query, Statement, TableName};
+use tt_terminal::error::ParseError;
+use tt_terminal::fixed::{after, either_word};
+use tt_terminal::kind::LexemeKind;
+use tt_terminal::name::upper_text;
+use tt_terminal::quoted::optional_quoted;
+use tt_terminal::rest::Rest;
 
 /// What stands behind the words of the view of storage up to its dot, if they stand here.
 fn view_words(rest: Rest<'_>) -> Option<Rest<'_>>

@@ -9,19 +9,19 @@ ghost use Rattle.tt_sql.specs.StatementGiven.{IsGivenStatement};
 ghost use Rattle.tt_sql.specs.StatementMarks.{statement_marks};
 ghost use Rattle.tt_sql.specs.Written.{begin, commit, rollback, show, spare};
 ghost use Rattle.tt_parse.specs.Choices.{Chooses, on_rows, on_tables, on_transactions, others};
-ghost use Rattle.tt_parse.specs.KindNumbers.{kind_number};
-ghost use Rattle.tt_parse.specs.Reading.{IsKnown, Passes, Reads};
+ghost use Rattle.tt_terminal.specs.KindNumbers.{kind_number};
+ghost use Rattle.tt_terminal.specs.Reading.{IsKnown, Passes, Reads};
 
 use crate::change::{copy_of, delete_of, insert_of, update_of};
-use crate::error::ParseError;
-use crate::fixed::{after, either_word, flag_of, past, stands};
-use crate::kind::LexemeKind;
-use crate::rest::Rest;
 use crate::select::{explain_of, select_of};
 use crate::table::{alter_of, create_of, drop_of, truncate_of, undrop_of};
 use crate::wait::wait_of;
 use std::alloc::Global;
 use tt_sql::{Dml, Statement};
+use tt_terminal::error::ParseError;
+use tt_terminal::fixed::{after, either_word, flag_of, past, stands};
+use tt_terminal::kind::LexemeKind;
+use tt_terminal::rest::Rest;
 
 /// What stands behind one of two words that may stand here.
 fn past_either<'a>(first: LexemeKind, second: LexemeKind, rest: Rest<'a>) -> Rest<'a>

@@ -12,20 +12,20 @@ ghost use Rattle.tt_sql.specs.StatementMarks.{statement_marks};
 ghost use Rattle.tt_sql.specs.TableMarks.{alter_marks, change_marks, definition_marks, kind_marks, options_marks, table_kind_marks};
 ghost use Rattle.tt_sql.specs.TokenKinds.{BY, CLOSE, CLUSTER, CLUSTERING, DROP, EQUAL, KEY, NAME, OPEN, RECLUSTER, RESUME, SHORT_NUMBER, SUSPEND, TRANSIENT, is_name, is_number};
 ghost use Rattle.tt_sql.specs.Written.{alter, change, column, create_front, drop_table, kind, name_and_number, only_number, options, retention, truncate, undrop};
-ghost use Rattle.tt_parse.specs.Reading.{IsKnown, Passes, Reads};
+ghost use Rattle.tt_terminal.specs.Reading.{IsKnown, Passes, Reads};
 
-use crate::error::ParseError;
-use crate::fixed::{after, any_word, flag_of_both, past};
-use crate::kind::LexemeKind;
-use crate::moment::optional_clause;
-use crate::name::{name_of, number_of, optional_name, optional_number, table_of};
-use crate::rest::Rest;
 use sqlite_items::Items;
 use std::alloc::Global;
+use tt_phrase::moment::optional_clause;
 use tt_sql::{
     Alter, Change, ClonedTable, ColumnDefinition, CreatedTable, Name, Number, Source, Statement,
     TableKind, TableName, TableOptions,
 };
+use tt_terminal::error::ParseError;
+use tt_terminal::fixed::{after, any_word, flag_of_both, past};
+use tt_terminal::kind::LexemeKind;
+use tt_terminal::name::{name_of, number_of, optional_name, optional_number, table_of};
+use tt_terminal::rest::Rest;
 use tt_value::Kind;
 
 /// The kind of a column.

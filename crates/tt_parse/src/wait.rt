@@ -1,23 +1,23 @@
 //! The reader of CALL SYSTEM$WAIT.
 
-ghost use Rattle.std.specs.Prelude.{◌≡◌, true, false, [], ◌∷◌, bytes_eq, MatchOption};
+ghost use Rattle.std.specs.Prelude.{◌≡◌, false, [], ◌∷◌, bytes_eq, MatchOption};
 ghost use Rattle.std.specs.List.{list_any};
 ghost use Rattle.tt_sql.specs.Grammar.{Note, Way};
 ghost use Rattle.tt_sql.specs.Parts.{as_unit, one, way, ◌▸◌, ◌∣◌};
 ghost use Rattle.tt_sql.specs.StatementMarks.{unit_number, wait_marks};
 ghost use Rattle.tt_sql.specs.TokenKinds.{COMMA, UNIT_TEXT, unit_words, upper};
 ghost use Rattle.tt_sql.specs.Written.{wait};
-ghost use Rattle.tt_parse.specs.Reading.{IsKnown, Reads};
+ghost use Rattle.tt_terminal.specs.Reading.{IsKnown, Reads};
 ghost use Rattle.tt_parse.specs.Tables.{IsUnit};
 
-use crate::error::ParseError;
-use crate::fixed::after;
-use crate::kind::LexemeKind;
-use crate::name::short_number_of;
-use crate::quoted::optional_quoted;
-use crate::rest::Rest;
 use std::alloc::Global;
 use tt_sql::{TimeUnit, Wait};
+use tt_terminal::error::ParseError;
+use tt_terminal::fixed::after;
+use tt_terminal::kind::LexemeKind;
+use tt_terminal::name::short_number_of;
+use tt_terminal::quoted::optional_quoted;
+use tt_terminal::rest::Rest;
 
 /// CALL SYSTEM$WAIT. Where no unit is written, seconds are meant.
 pub fn wait_of<'a>(alloc: Global, rest: Rest<'a>) -> Result<(Wait, Rest<'a>), ParseError>

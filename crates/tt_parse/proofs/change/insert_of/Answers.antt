@@ -1,5 +1,5 @@
-use Rattle.tt_parse.proofs.Steps.{passes_both, stops_first, stops_second}
-use Rattle.tt_parse.proofs.Exits.{exits, within}
+use Rattle.tt_terminal.proofs.Steps.{passes_both, stops_first, stops_second}
+use Rattle.tt_terminal.proofs.Exits.{exits, within}
 use Rattle.tt_parse.proofs.change.insert_of.Goals as goal
 
 pub returns-in_err-rest-clause-reads : goal.returns-in_err-rest-clause-reads

@@ -3,7 +3,7 @@ use Rattle.std.specs.Prelude.{⊤}
 use Rattle.tt_sql.specs.Parts.{name}
 use Rattle.tt_sql.specs.Marks.{name_marks}
 use Rattle.tt_sql.specs.QueryGiven.{IsListed}
-use Rattle.tt_parse.proofs.Lists.{Listing}
+use Rattle.tt_phrase.proofs.Lists.{Listing}
 use Rattle.tt_parse.proofs.change.names_of.Given as goal
 
 abbrev pub invariant-loop-behind : goal.invariant-loop-behind

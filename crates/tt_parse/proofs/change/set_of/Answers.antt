@@ -1,5 +1,5 @@
-use Rattle.tt_parse.proofs.Steps.{passes_both, passes_again, stops_first, stops_second, stops_again}
-use Rattle.tt_parse.proofs.Exits.{exits, within}
+use Rattle.tt_terminal.proofs.Steps.{passes_both, passes_again, stops_first, stops_second, stops_again}
+use Rattle.tt_terminal.proofs.Exits.{exits, within}
 use Rattle.tt_parse.proofs.change.set_of.Goals as goal
 
 pub returns-in_err-column-clause-reads : goal.returns-in_err-column-clause-reads

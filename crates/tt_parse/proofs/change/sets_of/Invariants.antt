@@ -3,7 +3,7 @@ use Rattle.tt_sql.specs.Read.{read_set}
 use Rattle.tt_sql.specs.ChangeMarks.{set_marks}
 use Rattle.tt_sql.specs.QueryGiven.{IsListed}
 use Rattle.tt_sql.specs.StatementGiven.{IsGivenSet}
-use Rattle.tt_parse.proofs.Lists.{Listing}
+use Rattle.tt_phrase.proofs.Lists.{Listing}
 use Rattle.tt_parse.proofs.change.sets_of.Given as goal
 
 abbrev pub invariant-loop-behind : goal.invariant-loop-behind

@@ -1,5 +1,5 @@
-use Rattle.tt_parse.proofs.Steps.{passes_both, stops_first, stops_second}
-use Rattle.tt_parse.proofs.Exits.{exits, within, passes_then}
+use Rattle.tt_terminal.proofs.Steps.{passes_both, stops_first, stops_second}
+use Rattle.tt_terminal.proofs.Exits.{exits, within, passes_then}
 use Rattle.tt_parse.proofs.change.tuple_of.Goals as goal
 
 pub returns-in_err-place-clause-reads : goal.returns-in_err-place-clause-reads

@@ -3,7 +3,7 @@ use Rattle.tt_sql.specs.Written.{tuple}
 use Rattle.tt_sql.specs.ChangeMarks.{tuple_marks}
 use Rattle.tt_sql.specs.QueryGiven.{IsListed}
 use Rattle.tt_sql.specs.StatementGiven.{IsGivenTuple}
-use Rattle.tt_parse.proofs.Lists.{Listing}
+use Rattle.tt_phrase.proofs.Lists.{Listing}
 use Rattle.tt_parse.proofs.change.tuples_of.Given as goal
 
 abbrev pub invariant-loop-behind : goal.invariant-loop-behind

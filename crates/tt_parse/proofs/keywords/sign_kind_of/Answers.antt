@@ -1,5 +1,5 @@
 use Rattle.std.proofs.Common.{◌≡◌, ℕ, List, false, bytes_eq, sym, subst}
-use Rattle.tt_parse.specs.KindNumbers.{kind_number}
+use Rattle.tt_terminal.specs.KindNumbers.{kind_number}
 use Rattle.tt_parse.proofs.Tables.{sign_stands}
 use Rattle.tt_parse.proofs.keywords.sign_kind_of.Goals as goal
 

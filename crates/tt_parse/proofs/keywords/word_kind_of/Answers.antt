@@ -1,5 +1,5 @@
 use Rattle.tt_sql.specs.TokenKinds.{upper}
-use Rattle.tt_parse.specs.KindNumbers.{kind_number}
+use Rattle.tt_terminal.specs.KindNumbers.{kind_number}
 use Rattle.tt_parse.proofs.Tables.{word_stands}
 use Rattle.tt_parse.proofs.keywords.word_kind_of.Goals as goal
 

@@ -2,7 +2,7 @@ use Rattle.std.proofs.Common.{rules, ◌≡◌, List, [], ◌∷◌, ◌++◌, t
 use Rattle.std.proofs.lemmas.List.{map-append, take_more}
 use Rattle.tt_lex.specs.declared.Token.{Token}
 use Rattle.std.proofs.lemmas.List.Elements.{All-push}
-use Rattle.tt_parse.specs.Reading.{IsOf}
+use Rattle.tt_terminal.specs.Reading.{IsOf}
 use Rattle.tt_parse.proofs.lexed.lexed.Goals as goal
 
 pub loop-token-preserved : goal.loop-token-preserved

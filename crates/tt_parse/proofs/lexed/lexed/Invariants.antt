@@ -1,6 +1,6 @@
 use Rattle.std.proofs.Common.{◌≡◌, take, map, All}
-use Rattle.tt_parse.specs.Reading.{IsOf}
-use Rattle.tt_parse.specs.declared.rest.Lexed.{Lexed}
+use Rattle.tt_terminal.specs.Reading.{IsOf}
+use Rattle.tt_terminal.specs.declared.rest.Lexed.{Lexed}
 use Rattle.tt_parse.proofs.lexed.lexed.Given as goal
 
 abbrev pub invariant-loop-token : goal.invariant-loop-token

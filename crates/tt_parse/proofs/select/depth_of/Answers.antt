@@ -1,7 +1,7 @@
-use Rattle.tt_parse.specs.Selects.{depth_kinds}
-use Rattle.tt_parse.proofs.Exits.{within}
-use Rattle.tt_parse.proofs.Steps.{passes_as, passes_both, stops_first, stops_second}
-use Rattle.tt_parse.proofs.SelectReads.{depth_passes, depth_stops, if_exit}
+use Rattle.tt_phrase.specs.Selects.{depth_kinds}
+use Rattle.tt_terminal.proofs.Exits.{within}
+use Rattle.tt_terminal.proofs.Steps.{passes_as, passes_both, stops_first, stops_second}
+use Rattle.tt_phrase.proofs.SelectReads.{depth_passes, depth_stops, if_exit}
 use Rattle.tt_parse.proofs.select.depth_of.Goals as goal
 
 pub returns-in_err-table-clause-reads : goal.returns-in_err-table-clause-reads

@@ -3,8 +3,8 @@ use Rattle.tt_value.specs.TextValue.{IsPrintableAscii}
 use Rattle.tt_sql.specs.Grammar.{Said, is_of}
 use Rattle.tt_sql.specs.Parts.{quoted_name}
 use Rattle.tt_sql.specs.TokenKinds.{OTHER_TEXT, is_quoted, upper}
-use Rattle.tt_parse.specs.Reading.{Fails, IsQuoted, first_kind, first_place}
-use Rattle.tt_parse.proofs.Steps.{marks_are, stops_here}
+use Rattle.tt_terminal.specs.Reading.{Fails, IsQuoted, first_kind, first_place}
+use Rattle.tt_terminal.proofs.Steps.{marks_are, stops_here}
 use Rattle.tt_parse.proofs.QuotedNames.{name_is_quoted, name_printable, passes_quoted_name}
 use Rattle.tt_parse.proofs.select.quoted_table_of.Goals as goal
 

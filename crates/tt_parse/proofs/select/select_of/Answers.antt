@@ -1,10 +1,10 @@
 use Rattle.std.proofs.Common.{◌≡◌, false}
 use Rattle.tt_sql.specs.SelectLaws.{begins_with}
-use Rattle.tt_parse.specs.Reading.{seen}
-use Rattle.tt_parse.specs.Selects.{depth_kinds, view_kinds}
-use Rattle.tt_parse.proofs.Steps.{passes_as, stops_first}
-use Rattle.tt_parse.proofs.Exits.{exits, within}
-use Rattle.tt_parse.proofs.SelectReads.{select_passes, select_stops}
+use Rattle.tt_terminal.specs.Reading.{seen}
+use Rattle.tt_phrase.specs.Selects.{depth_kinds, view_kinds}
+use Rattle.tt_terminal.proofs.Steps.{passes_as, stops_first}
+use Rattle.tt_terminal.proofs.Exits.{exits, within}
+use Rattle.tt_phrase.proofs.SelectReads.{select_passes, select_stops}
 use Rattle.tt_parse.proofs.select.select_of.Goals as goal
 
 pub returns-in_err-rest-clause-reads : goal.returns-in_err-rest-clause-reads

@@ -1,9 +1,9 @@
 use Rattle.std.proofs.Common.{◌∷◌, []}
 use Rattle.tt_sql.specs.Grammar.{Way}
-use Rattle.tt_parse.specs.declared.rest.Rest.{Rest}
-use Rattle.tt_parse.specs.Selects.{view_kinds}
-use Rattle.tt_parse.proofs.Exits.{within}
-use Rattle.tt_parse.proofs.SelectReads.{view_passes, view_stops, if_exit}
+use Rattle.tt_terminal.specs.declared.rest.Rest.{Rest}
+use Rattle.tt_phrase.specs.Selects.{view_kinds}
+use Rattle.tt_terminal.proofs.Exits.{within}
+use Rattle.tt_phrase.proofs.SelectReads.{view_passes, view_stops, if_exit}
 use Rattle.tt_parse.proofs.select.view_of.Goals as goal
 
 pub returns-in_err-rest : goal.returns-in_err-rest

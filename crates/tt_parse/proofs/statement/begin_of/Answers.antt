@@ -1,6 +1,6 @@
 use Rattle.std.proofs.Common.{refl}
-use Rattle.tt_parse.proofs.Steps.{passes_left, passes_word, stops_first, stops_right, word_kind_is}
-use Rattle.tt_parse.proofs.Exits.{exits, within, gives, turns_right}
+use Rattle.tt_terminal.proofs.Steps.{passes_left, passes_word, stops_first, stops_right, word_kind_is}
+use Rattle.tt_terminal.proofs.Exits.{exits, within, gives, turns_right}
 use Rattle.tt_parse.proofs.statement.begin_of.Goals as goal
 
 pub returns-in-Some : goal.returns-in-Some

@@ -1,6 +1,6 @@
 use Rattle.std.proofs.Common.{refl, sym}
-use Rattle.tt_parse.proofs.Steps.{passes_left, passes_right, passes_as, stops_first, stops_left, stops_right}
-use Rattle.tt_parse.proofs.Exits.{within}
+use Rattle.tt_terminal.proofs.Steps.{passes_left, passes_right, passes_as, stops_first, stops_left, stops_right}
+use Rattle.tt_terminal.proofs.Exits.{within}
 use Rattle.std.proofs.lemmas.Bool.{eqb-true}
 use Rattle.tt_parse.specs.Choices.{on_transactions}
 use Rattle.tt_parse.proofs.Groups.{chooses_exit, skips_none, skips_first}

@@ -1,6 +1,6 @@
 use Rattle.std.proofs.Common.{refl, sym}
-use Rattle.tt_parse.proofs.Steps.{passes_left, passes_right, passes_as, stops_first, stops_left, stops_right}
-use Rattle.tt_parse.proofs.Exits.{exits, within}
+use Rattle.tt_terminal.proofs.Steps.{passes_left, passes_right, passes_as, stops_first, stops_left, stops_right}
+use Rattle.tt_terminal.proofs.Exits.{exits, within}
 use Rattle.std.proofs.lemmas.Bool.{eqb-true}
 use Rattle.tt_parse.proofs.statement.other_of.Goals as goal
 

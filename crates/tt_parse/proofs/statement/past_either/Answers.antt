@@ -1,6 +1,6 @@
 use Rattle.std.proofs.Common.{refl}
-use Rattle.tt_parse.proofs.Steps.{passes_left, passes_right, passes_noted}
-use Rattle.tt_parse.proofs.KindEnds.{no_end}
+use Rattle.tt_terminal.proofs.Steps.{passes_left, passes_right, passes_noted}
+use Rattle.tt_terminal.proofs.KindEnds.{no_end}
 use Rattle.tt_parse.proofs.statement.past_either.Goals as goal
 
 pub returns-in-Some : goal.returns-in-Some

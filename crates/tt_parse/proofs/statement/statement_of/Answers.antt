@@ -1,8 +1,8 @@
 use Rattle.std.proofs.Common.{refl, sym}
 use Rattle.std.proofs.lemmas.Bool.{eqb-true}
 use Rattle.tt_parse.specs.Choices.{Skips, on_rows, on_tables, on_transactions, others}
-use Rattle.tt_parse.proofs.Steps.{passes_right, stops_right}
-use Rattle.tt_parse.proofs.Exits.{exits, within, turns_left, turns_right}
+use Rattle.tt_terminal.proofs.Steps.{passes_right, stops_right}
+use Rattle.tt_terminal.proofs.Exits.{exits, within, turns_left, turns_right}
 use Rattle.tt_parse.proofs.Statements.{skips_to}
 use Rattle.tt_parse.proofs.statement.statement_of.Goals as goal
 

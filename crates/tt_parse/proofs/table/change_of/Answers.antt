@@ -1,6 +1,6 @@
 use Rattle.std.proofs.Common.{refl}
-use Rattle.tt_parse.proofs.Steps.{passes_both, passes_left, passes_right, passes_as, passes_word, stops_first, stops_second, stops_left, stops_right, stops_word, word_kind_is}
-use Rattle.tt_parse.proofs.Exits.{exits, within, turns_right}
+use Rattle.tt_terminal.proofs.Steps.{passes_both, passes_left, passes_right, passes_as, passes_word, stops_first, stops_second, stops_left, stops_right, stops_word, word_kind_is}
+use Rattle.tt_terminal.proofs.Exits.{exits, within, turns_right}
 use Rattle.tt_parse.proofs.table.change_of.Goals as goal
 
 pub returns-in_err-rest-clause-reads : goal.returns-in_err-rest-clause-reads

@@ -1,6 +1,6 @@
 use Rattle.std.proofs.Common.{refl}
-use Rattle.tt_parse.proofs.Steps.{stops_first}
-use Rattle.tt_parse.proofs.Exits.{exits, within, gives}
+use Rattle.tt_terminal.proofs.Steps.{stops_first}
+use Rattle.tt_terminal.proofs.Exits.{exits, within, gives}
 use Rattle.tt_parse.proofs.table.cluster_name.Goals as goal
 
 pub returns-in_err-rest : goal.returns-in_err-rest

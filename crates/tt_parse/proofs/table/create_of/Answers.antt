@@ -1,6 +1,6 @@
 use Rattle.std.proofs.Common.{◌++◌, ◌∷◌, [], refl}
-use Rattle.tt_parse.proofs.Steps.{marks_are, passes_both, passes_left, passes_right, passes_as, passes_word, stops_first, stops_second, stops_left, stops_right, stops_word, word_kind_is}
-use Rattle.tt_parse.proofs.Exits.{exits, within, regroup, passes_then}
+use Rattle.tt_terminal.proofs.Steps.{marks_are, passes_both, passes_left, passes_right, passes_as, passes_word, stops_first, stops_second, stops_left, stops_right, stops_word, word_kind_is}
+use Rattle.tt_terminal.proofs.Exits.{exits, within, regroup, passes_then}
 use Rattle.std.proofs.Common.{map}
 use Rattle.tt_sql.specs.Grammar.{Way}
 use Rattle.tt_sql.specs.Marks.{flag_marks, listed_marks, maybe_marks, table_marks}

@@ -3,7 +3,7 @@ use Rattle.std.specs.Prelude.{⊤}
 use Rattle.tt_sql.specs.Written.{column}
 use Rattle.tt_sql.specs.TableMarks.{definition_marks}
 use Rattle.tt_sql.specs.QueryGiven.{IsListed}
-use Rattle.tt_parse.proofs.Lists.{Listing}
+use Rattle.tt_phrase.proofs.Lists.{Listing}
 use Rattle.tt_parse.proofs.table.definitions_of.Given as goal
 
 abbrev pub invariant-loop-behind : goal.invariant-loop-behind

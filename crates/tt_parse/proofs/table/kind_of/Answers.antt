@@ -1,7 +1,7 @@
 use Rattle.std.proofs.Common.{[], refl}
-use Rattle.tt_parse.proofs.Steps.{passes_left, passes_right, passes_as, passes_last_word, stops_here, word_kind_is}
+use Rattle.tt_terminal.proofs.Steps.{passes_left, passes_right, passes_as, passes_last_word, stops_here, word_kind_is}
 use Rattle.tt_sql.specs.Written.{kind}
-use Rattle.tt_parse.specs.Reading.{Fails, first_place}
+use Rattle.tt_terminal.specs.Reading.{Fails, first_place}
 use Rattle.tt_parse.proofs.table.kind_of.Goals as goal
 
 pub returns-in-Some : goal.returns-in-Some

@@ -1,6 +1,6 @@
 use Rattle.std.proofs.Common.{refl}
-use Rattle.tt_parse.proofs.Steps.{passes_left, passes_right, passes_as, passes_word, passes_way, stops_first, stops_left, stops_word, word_kind_is}
-use Rattle.tt_parse.proofs.Exits.{exits, within}
+use Rattle.tt_terminal.proofs.Steps.{passes_left, passes_right, passes_as, passes_word, passes_way, stops_first, stops_left, stops_word, word_kind_is}
+use Rattle.tt_terminal.proofs.Exits.{exits, within}
 use Rattle.tt_parse.proofs.table.optional_retention.Goals as goal
 
 pub returns-in_default : goal.returns-in_default

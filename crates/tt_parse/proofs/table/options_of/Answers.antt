@@ -1,6 +1,6 @@
 use Rattle.std.proofs.Common.{refl}
-use Rattle.tt_parse.proofs.Steps.{passes_both, passes_left, passes_right, passes_word, passes_way, stops_first, stops_second, stops_left, stops_word, word_kind_is}
-use Rattle.tt_parse.proofs.Exits.{exits, within, turns_left, turns_right, goes_on}
+use Rattle.tt_terminal.proofs.Steps.{passes_both, passes_left, passes_right, passes_word, passes_way, stops_first, stops_second, stops_left, stops_word, word_kind_is}
+use Rattle.tt_terminal.proofs.Exits.{exits, within, turns_left, turns_right, goes_on}
 use Rattle.tt_parse.proofs.table.options_of.Goals as goal
 
 pub returns-in_err-name : goal.returns-in_err-name

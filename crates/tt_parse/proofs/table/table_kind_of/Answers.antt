@@ -1,5 +1,5 @@
 use Rattle.std.proofs.Common.{refl}
-use Rattle.tt_parse.proofs.Steps.{passes_left, passes_right, passes_as, passes_last_word, passes_way, word_kind_is}
+use Rattle.tt_terminal.proofs.Steps.{passes_left, passes_right, passes_as, passes_last_word, passes_way, word_kind_is}
 use Rattle.tt_parse.proofs.table.table_kind_of.Goals as goal
 
 pub returns-in-Some : goal.returns-in-Some

@@ -1,6 +1,6 @@
 use Rattle.std.proofs.Common.{refl}
-use Rattle.tt_parse.proofs.Steps.{passes_right, passes_way, word_kind_is}
-use Rattle.tt_parse.proofs.Exits.{turns_left, goes_on}
+use Rattle.tt_terminal.proofs.Steps.{passes_right, passes_way, word_kind_is}
+use Rattle.tt_terminal.proofs.Exits.{turns_left, goes_on}
 use Rattle.tt_parse.proofs.wait.optional_unit.Goals as goal
 
 pub returns-in_default : goal.returns-in_default

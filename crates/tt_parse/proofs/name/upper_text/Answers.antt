@@ -1,9 +1,0 @@
-use Rattle.std.proofs.Common.{rules, ◌≡◌, All, subst, sym}
-use Rattle.tt_value.specs.TextValue.{IsPrintableAscii}
-use Rattle.tt_sql.specs.TokenKinds.{upper}
-use Rattle.tt_parse.proofs.name.upper_text.Goals as goal
-
-pub from_ascii-requires-clause-plain : goal.from_ascii-requires-clause-plain
-from_ascii-requires-clause-plain c =
-    let is : c.deref.result.now ≡ upper c.args.bytes.now = search rules in
-    subst (All IsPrintableAscii) (sym is) c.requires.plain

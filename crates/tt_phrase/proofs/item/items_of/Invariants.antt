@@ -1,0 +1,18 @@
+use Rattle.std.proofs.Common.{◌≡◌, ◌≤◌, length, map}
+use Rattle.tt_sql.specs.Checks.{nowhere}
+use Rattle.tt_sql.specs.Read.{read_item}
+use Rattle.tt_sql.specs.QueryMarks.{item_marks}
+use Rattle.tt_sql.specs.QueryGiven.{IsGivenItem, IsListed}
+use Rattle.tt_phrase.proofs.Lists.{Listing}
+use Rattle.tt_phrase.proofs.item.items_of.Given as goal
+
+abbrev pub invariant-loop-behind : goal.invariant-loop-behind
+invariant-loop-behind l = record {
+  same : l.rest.text.now ≡ l.fn.rest.text.now;
+  filled : 1 ≤ length l.items;
+  given : IsListed IsGivenItem l.items;
+  listing : Listing (read_item nowhere l.fn.levels) l.fn.rest (map item_marks l.items) l.rest;
+}
+
+abbrev pub decreases-loop-behind : goal.decreases-loop-behind
+decreases-loop-behind l = length l.rest.tokens.now

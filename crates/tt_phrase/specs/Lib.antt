@@ -1,0 +1,5 @@
+pub mod Counted
+pub mod Factors
+pub mod Predicates
+pub mod QueryEnds
+pub mod Selects

@@ -1,0 +1,18 @@
+-- The parts of a predicate as they are read.
+use Rattle.std.specs.Prelude.{◌≡◌, ℕ, List, [], ◌++◌, Result, Ok, Err}
+use Rattle.tt_sql.specs.Grammar.{Mark, Gram, Again, Predicate, Unit}
+use Rattle.tt_sql.specs.Parts.{◌▸◌, ◌∣◌, one, way}
+use Rattle.tt_sql.specs.Read.{read_simple}
+use Rattle.tt_sql.specs.TokenKinds.{NOT, OPEN, CLOSE}
+use Rattle.tt_terminal.specs.declared.error.ParseError.{ParseError}
+use Rattle.tt_terminal.specs.declared.rest.Rest.{Rest}
+use Rattle.tt_terminal.specs.Reading.{Passes, Errs}
+
+-- What a reader says that was given the front of a tree, with these marks: what it reads are the marks behind them.
+abbrev pub Completes : {T : Type 0} → (T → List Mark) → (T → Rest) → List Mark → Gram → Rest → Result T ParseError → Type 0
+Completes marks rest front g r (Ok x) = (m : List Mark) × (marks x ≡ front ++ m) × Passes [] g r m (rest x)
+Completes marks rest front g r (Err e) = Errs [] g r e
+
+-- a unit, where so many levels are left behind NOT and in brackets
+abbrev pub deeper_unit : ℕ → Gram
+deeper_unit levels = one NOT ▸ way 7 ▸ Again Unit levels ∣ one OPEN ▸ way 8 ▸ Again Predicate levels ▸ one CLOSE ∣ read_simple

@@ -1,0 +1,137 @@
+//! Readers of what a query selects.
+
+ghost use Rattle.std.specs.Prelude.{◌≡◌, ℕ, false, [], ◌∷◌, ◌++◌, map, IfOk, MatchOption};
+ghost use Rattle.tt_sql.specs.Grammar.{At, Way};
+ghost use Rattle.tt_sql.specs.Checks.{nowhere};
+ghost use Rattle.tt_sql.specs.Read.{read_item};
+ghost use Rattle.tt_sql.specs.SelectLaws.{begins_with};
+ghost use Rattle.tt_sql.specs.Marks.{listed_marks, column_marks};
+ghost use Rattle.tt_sql.specs.QueryGiven.{IsAlone, IsGivenItem, IsGivenSelection, IsListed, WhenThere};
+ghost use Rattle.tt_sql.specs.QueryMarks.{item_marks, selection_marks};
+ghost use Rattle.tt_sql.specs.Parts.{listed, name as name_part, one, placed, way, ◌▸◌, ◌∣◌};
+ghost use Rattle.tt_sql.specs.TokenKinds.{CLOSE, OPEN, STAR};
+ghost use Rattle.tt_terminal.specs.declared.rest.Rest.{Rest};
+ghost use Rattle.tt_phrase.specs.Counted.{counted_marks};
+ghost use Rattle.tt_terminal.specs.KindNumbers.{kind_number};
+ghost use Rattle.tt_terminal.specs.Reading.{IsKnown, IsPlaced, IsWord, Reads, seen};
+
+use crate::expression::expr_of;
+use sqlite_items::Items;
+use std::alloc::Global;
+use tt_sql::{ColumnName, Item, Selection};
+use tt_terminal::error::ParseError;
+use tt_terminal::fixed::after;
+use tt_terminal::kind::LexemeKind;
+use tt_terminal::name::column_of;
+use tt_terminal::rest::Rest;
+
+/// The place of the word of an aggregate and what stands behind its bracket, if both stand here.
+fn bracket_behind(kind: LexemeKind, rest: Rest<'_>) -> Option<(u32, Rest<'_>)>
+    requires { IsKnown rest }
+    ensures { MatchOption result (begins_with (kind_number kind ∷ OPEN ∷ []) (seen rest.entry) ≡ false) (λ x. (bracket : Rest) × IsPlaced (kind_number kind) rest.entry x.0 bracket × IsWord OPEN bracket x.1) }
+{
+    let (place, bracket) = rest.placed(kind)?;
+    let behind = bracket.word(LexemeKind::Open)?;
+    Some((place, behind))
+}
+
+/// What COUNT counts: the values of a column, or the rows. The bracket is closed.
+fn counted<'a>(alloc: Global, rest: Rest<'a>) -> Result<(Option<ColumnName>, Rest<'a>), ParseError>
+    requires { IsKnown rest }
+    ensures reads { Reads (λ x. counted_marks x.0) (λ x. x.1) (one STAR ▸ one CLOSE ▸ way 4 ∣ name_part ▸ one CLOSE ▸ way 5) rest.entry result }
+    ensures given { IfOk result (λ x. WhenThere IsAlone x.0) }
+{
+    if let Some(rest) = rest.word(LexemeKind::Star) {
+        let rest = after(LexemeKind::Close, rest)?;
+        return Ok((None, rest));
+    }
+    let (column, rest) = column_of(alloc, rest)?;
+    let rest = after(LexemeKind::Close, rest)?;
+    Ok((Some(column), rest))
+}
+
+/// The column of an aggregate. The bracket is closed.
+fn closed_column<'a>(alloc: Global, rest: Rest<'a>) -> Result<(ColumnName, Rest<'a>), ParseError>
+    requires { IsKnown rest }
+    ensures reads { (n : ℕ) → Reads (λ x. column_marks x.0 ++ Way n ∷ []) (λ x. x.1) (name_part ▸ one CLOSE ▸ way n) rest.entry result }
+    ensures given { IfOk result (λ x. IsAlone x.0) }
+{
+    let (column, rest) = column_of(alloc, rest)?;
+    let rest = after(LexemeKind::Close, rest)?;
+    Ok((column, rest))
+}
+
+/// COUNT of a column, or of the rows.
+fn count_item(place: u32, column: Option<ColumnName>) -> Item
+    ensures marks { item_marks result ≡ At place ∷ counted_marks column }
+    ensures given { WhenThere IsAlone column → IsGivenItem result }
+{
+    match column {
+        Some(column) => Item::Count(place, column),
+        None => Item::CountAll(place),
+    }
+}
+
+/// An item. The word of an aggregate is a name unless a bracket stands behind it.
+fn item_of<'a>(alloc: Global, levels: u32, rest: Rest<'a>) -> Result<(Item, Rest<'a>), ParseError>
+    requires { IsKnown rest }
+    ensures reads { Reads (λ x. item_marks x.0) (λ x. x.1) (read_item nowhere levels) rest.entry result }
+    ensures given { IfOk result (λ x. IsGivenItem x.0) }
+{
+    if let Some((place, rest)) = bracket_behind(LexemeKind::Count, rest) {
+        let (column, rest) = counted(alloc, rest)?;
+        return Ok((count_item(place, column), rest));
+    }
+    if let Some((place, rest)) = bracket_behind(LexemeKind::Sum, rest) {
+        let (column, rest) = closed_column(alloc, rest)?;
+        return Ok((Item::Sum(place, column), rest));
+    }
+    if let Some((place, rest)) = bracket_behind(LexemeKind::Min, rest) {
+        let (column, rest) = closed_column(alloc, rest)?;
+        return Ok((Item::Min(place, column), rest));
+    }
+    if let Some((place, rest)) = bracket_behind(LexemeKind::Max, rest) {
+        let (column, rest) = closed_column(alloc, rest)?;
+        return Ok((Item::Max(place, column), rest));
+    }
+    let (value, rest) = expr_of(alloc, levels, rest)?;
+    Ok((Item::Expr(value), rest))
+}
+
+/// The items of a query.
+fn items_of<'a>(
+    alloc: Global,
+    levels: u32,
+    rest: Rest<'a>,
+) -> Result<(Items<Item>, Rest<'a>), ParseError>
+    requires { IsKnown rest }
+    ensures reads { Reads (λ x. listed_marks (map item_marks x.0)) (λ x. x.1) (listed (read_item nowhere levels)) rest.entry result }
+    ensures given { IfOk result (λ x. IsListed IsGivenItem x.0) }
+{
+    let (first, mut rest) = item_of(alloc, levels, rest)?;
+    let mut items = Items::new(alloc);
+    items.push(first)?;
+    while let Some(behind) = rest.word(LexemeKind::Comma) {
+        let (next, behind) = item_of(alloc, levels, behind)?;
+        items.push(next)?;
+        rest = behind;
+    }
+    Ok((items, rest))
+}
+
+/// A star, or the items of a query.
+pub fn selection_of<'a>(
+    alloc: Global,
+    levels: u32,
+    rest: Rest<'a>,
+) -> Result<(Selection, Rest<'a>), ParseError>
+    requires { IsKnown rest }
+    ensures reads { Reads (λ x. selection_marks x.0) (λ x. x.1) (placed STAR ▸ way 0 ∣ listed (read_item nowhere levels) ▸ way 1) rest.entry result }
+    ensures given { IfOk result (λ x. IsGivenSelection x.0) }
+{
+    if let Some((place, rest)) = rest.placed(LexemeKind::Star) {
+        return Ok((Selection::All(place), rest));
+    }
+    let (items, rest) = items_of(alloc, levels, rest)?;
+    Ok((Selection::Listed(items), rest))
+}

@@ -1,0 +1,37 @@
+//! Lists of literals.
+
+ghost use Rattle.std.specs.Prelude.{map, IfOk};
+ghost use Rattle.tt_sql.specs.QueryGiven.{IsListed};
+ghost use Rattle.tt_value.specs.RowText.{IsPrintableValue};
+ghost use Rattle.tt_sql.specs.Marks.{listed_marks, literal_marks};
+ghost use Rattle.tt_sql.specs.Parts.{listed};
+ghost use Rattle.tt_sql.specs.Written.{literal as literal_part};
+ghost use Rattle.tt_terminal.specs.Reading.{IsKnown, Reads};
+
+use sqlite_items::Items;
+use std::alloc::Global;
+use tt_sql::Literal;
+use tt_terminal::error::ParseError;
+use tt_terminal::kind::LexemeKind;
+use tt_terminal::literal::literal_of;
+use tt_terminal::rest::Rest;
+
+/// The literals of a tuple or of an IN, with commas between them.
+pub fn literals_of<'a>(
+    alloc: Global,
+    rest: Rest<'a>,
+) -> Result<(Items<Literal>, Rest<'a>), ParseError>
+    requires { IsKnown rest }
+    ensures reads { Reads (λ x. listed_marks (map literal_marks x.0)) (λ x. x.1) (listed literal_part) rest.entry result }
+    ensures given { IfOk result (λ x. IsListed (λ l. IsPrintableValue l.value) x.0) }
+{
+    let (first, mut rest) = literal_of(alloc, rest)?;
+    let mut literals = Items::new(alloc);
+    literals.push(first)?;
+    while let Some(behind) = rest.word(LexemeKind::Comma) {
+        let (next, behind) = literal_of(alloc, behind)?;
+        literals.push(next)?;
+        rest = behind;
+    }
+    Ok((literals, rest))
+}

@@ -1,0 +1,142 @@
+//! Readers of predicates.
+
+ghost use Rattle.std.specs.Prelude.{map, IfOk};
+ghost use Rattle.tt_sql.specs.Given.{Each, IsGivenConjunction, IsGivenPredicate, IsGivenUnit};
+ghost use Rattle.tt_sql.specs.QueryGiven.{WhenThere};
+ghost use Rattle.tt_sql.specs.Grammar.{Again, Many, Predicate as predicate_rule};
+ghost use Rattle.tt_sql.specs.Marks.{conjunction_marks, maybe_marks, predicate_marks, repeated, unit_marks};
+ghost use Rattle.tt_sql.specs.Parts.{maybe, one, ◌▸◌};
+ghost use Rattle.tt_sql.specs.Read.{read_conj, read_pred, read_unit};
+ghost use Rattle.tt_sql.specs.TokenKinds.{AND, OR, WHERE};
+ghost use Rattle.tt_phrase.specs.Predicates.{deeper_unit};
+ghost use Rattle.tt_terminal.specs.Reading.{IsKnown, Reads};
+
+use crate::unit::simple_of;
+use sqlite_items::{Boxed, Items};
+use std::alloc::Global;
+use tt_sql::{Conjunction, Predicate, Unit};
+use tt_terminal::error::ParseError;
+use tt_terminal::fixed::after;
+use tt_terminal::kind::LexemeKind;
+use tt_terminal::rest::Rest;
+
+/// The predicate that has to stand here, with so many levels left.
+#[cycle(predicates)]
+pub fn predicate_of<'a>(
+    alloc: Global,
+    levels: u32,
+    rest: Rest<'a>,
+) -> Result<(Predicate, Rest<'a>), ParseError>
+    requires { IsKnown rest }
+    ensures reads { Reads (λ x. predicate_marks x.0) (λ x. x.1) (read_pred levels) rest.entry result }
+    ensures given { IfOk result (λ x. IsGivenPredicate x.0) }
+{
+    let (first, behind) = conjunction_of(alloc, levels, rest)?;
+    let (others, end) = conjunctions_of(alloc, levels, behind)?;
+    Ok((Predicate { first, others }, end))
+}
+
+/// Further conjunctions.
+#[cycle(predicates)]
+fn conjunctions_of<'a>(
+    alloc: Global,
+    levels: u32,
+    rest: Rest<'a>,
+) -> Result<(Items<Conjunction>, Rest<'a>), ParseError>
+    requires { IsKnown rest }
+    ensures reads { Reads (λ x. repeated (map conjunction_marks x.0)) (λ x. x.1) (Many (one OR ▸ read_conj levels)) rest.entry result }
+    ensures given { IfOk result (λ x. Each IsGivenConjunction x.0) }
+{
+    let mut conjunctions = Items::new(alloc);
+    let mut left = rest;
+    while let Some(behind) = left.word(LexemeKind::Or) {
+        let (conjunction, end) = conjunction_of(alloc, levels, behind)?;
+        conjunctions.push(conjunction)?;
+        left = end;
+    }
+    Ok((conjunctions, left))
+}
+
+#[cycle(predicates)]
+fn conjunction_of<'a>(
+    alloc: Global,
+    levels: u32,
+    rest: Rest<'a>,
+) -> Result<(Conjunction, Rest<'a>), ParseError>
+    requires { IsKnown rest }
+    ensures reads { Reads (λ x. conjunction_marks x.0) (λ x. x.1) (read_conj levels) rest.entry result }
+    ensures given { IfOk result (λ x. IsGivenConjunction x.0) }
+{
+    let (first, behind) = unit_of(alloc, levels, rest)?;
+    let (others, end) = units_of(alloc, levels, behind)?;
+    Ok((Conjunction { first, others }, end))
+}
+
+/// Further units.
+#[cycle(predicates)]
+fn units_of<'a>(
+    alloc: Global,
+    levels: u32,
+    rest: Rest<'a>,
+) -> Result<(Items<Unit>, Rest<'a>), ParseError>
+    requires { IsKnown rest }
+    ensures reads { Reads (λ x. repeated (map unit_marks x.0)) (λ x. x.1) (Many (one AND ▸ read_unit levels)) rest.entry result }
+    ensures given { IfOk result (λ x. Each IsGivenUnit x.0) }
+{
+    let mut units = Items::new(alloc);
+    let mut left = rest;
+    while let Some(behind) = left.word(LexemeKind::And) {
+        let (unit, end) = unit_of(alloc, levels, behind)?;
+        units.push(unit)?;
+        left = end;
+    }
+    Ok((units, left))
+}
+
+#[cycle(predicates)]
+fn unit_of<'a>(alloc: Global, levels: u32, rest: Rest<'a>) -> Result<(Unit, Rest<'a>), ParseError>
+    requires { IsKnown rest }
+    ensures reads { Reads (λ x. unit_marks x.0) (λ x. x.1) (read_unit levels) rest.entry result }
+    ensures given { IfOk result (λ x. IsGivenUnit x.0) }
+{
+    if levels == 0 {
+        return simple_of(alloc, rest);
+    }
+    deeper_of(alloc, levels - 1, rest)
+}
+
+/// A unit, with so many levels left behind NOT and in brackets.
+#[cycle(predicates)]
+fn deeper_of<'a>(alloc: Global, levels: u32, rest: Rest<'a>) -> Result<(Unit, Rest<'a>), ParseError>
+    requires { IsKnown rest }
+    ensures reads { Reads (λ x. unit_marks x.0) (λ x. x.1) (deeper_unit levels) rest.entry result }
+    ensures given { IfOk result (λ x. IsGivenUnit x.0) }
+{
+    if let Some(behind) = rest.word(LexemeKind::Not) {
+        let (unit, end) = unit_of(alloc, levels, behind)?;
+        return Ok((Unit::Not(Boxed::new(alloc, unit)?), end));
+    }
+    if let Some(inside) = rest.word(LexemeKind::Open) {
+        let (predicate, behind) = predicate_of(alloc, levels, inside)?;
+        let end = after(LexemeKind::Close, behind)?;
+        return Ok((Unit::Bracket(Boxed::new(alloc, predicate)?), end));
+    }
+    simple_of(alloc, rest)
+}
+
+/// WHERE with its predicate, if it stands here.
+pub fn filter_of<'a>(
+    alloc: Global,
+    levels: u32,
+    rest: Rest<'a>,
+) -> Result<(Option<Predicate>, Rest<'a>), ParseError>
+    requires { IsKnown rest }
+    ensures reads { Reads (λ x. maybe_marks predicate_marks x.0) (λ x. x.1) (maybe (one WHERE ▸ Again predicate_rule levels)) rest.entry result }
+    ensures given { IfOk result (λ x. WhenThere IsGivenPredicate x.0) }
+{
+    let Some(rest) = rest.word(LexemeKind::Where) else {
+        return Ok((None, rest));
+    };
+    let (predicate, rest) = predicate_of(alloc, levels, rest)?;
+    Ok((Some(predicate), rest))
+}

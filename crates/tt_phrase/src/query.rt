@@ -1,0 +1,224 @@
+//! Readers of queries.
+
+ghost use Rattle.std.specs.Prelude.{◌≡◌, ◌≤◌, [], ◌∷◌, ◌++◌, length, map, IfOk};
+ghost use Rattle.tt_sql.specs.Grammar.{At};
+ghost use Rattle.tt_sql.specs.Read.{read_query, read_query_end};
+ghost use Rattle.tt_sql.specs.Marks.{flag_marks, listed_marks, maybe_marks, column_marks, number_marks, table_marks};
+ghost use Rattle.tt_sql.specs.Given.{Each};
+ghost use Rattle.tt_sql.specs.QueryGiven.{IsAlone, IsAloneTable, IsGivenKey, IsGivenKeyColumn, IsGivenQuery, IsGivenSelection};
+ghost use Rattle.tt_sql.specs.QueryMarks.{key_marks, key_column_marks, maybe_listed, query_marks, selection_marks};
+ghost use Rattle.tt_sql.specs.Parts.{listed, maybe, name as name_part, number as number_part, one, way, ◌▸◌, ◌∣◌};
+ghost use Rattle.tt_sql.specs.TokenKinds.{ASC, BY, DESC, GROUP, LIMIT, ORDER};
+ghost use Rattle.tt_sql.specs.Written.{key};
+ghost use Rattle.tt_phrase.specs.QueryEnds.{IsGivenQueryEnd, query_end_marks};
+ghost use Rattle.tt_terminal.specs.Reading.{IsKnown, Passes, Reads};
+
+use crate::item::selection_of;
+use crate::moment::optional_clause;
+use crate::predicate::filter_of;
+use sqlite_items::Items;
+use std::alloc::Global;
+use tt_sql::{
+    Clause, ColumnName, Key, KeyColumn, Number, Predicate, Query, Selection, Source, TableName,
+};
+use tt_terminal::error::ParseError;
+use tt_terminal::fixed::{after, place_of};
+use tt_terminal::kind::LexemeKind;
+use tt_terminal::name::{column_of, number_of, optional_name, table_of};
+use tt_terminal::rest::Rest;
+
+/// What stands behind the table of a query.
+#[derive(Drop)]
+pub struct QueryEnd {
+    pub clause: Option<Clause>,
+    pub filter: Option<Predicate>,
+    pub group: Items<ColumnName>,
+    pub order: Items<Key>,
+    pub limit: Option<Number>,
+}
+
+/// What a key of ORDER BY orders by.
+fn key_column_of<'a>(alloc: Global, rest: Rest<'a>) -> Result<(KeyColumn, Rest<'a>), ParseError>
+    requires { IsKnown rest }
+    ensures reads { Reads (λ x. key_column_marks x.0) (λ x. x.1) (name_part ▸ way 0 ∣ number_part ▸ way 1) rest.entry result }
+    ensures given { IfOk result (λ x. IsGivenKeyColumn x.0) }
+{
+    if let Some((name, rest)) = optional_name(alloc, rest)? {
+        let table = None;
+        return Ok((KeyColumn::Column(ColumnName { table, name }), rest));
+    }
+    let (number, rest) = number_of(rest)?;
+    Ok((KeyColumn::Position(number), rest))
+}
+
+/// Whether DESC stands behind a key.
+fn descending_of(rest: Rest<'_>) -> (bool, Rest<'_>)
+    requires { IsKnown rest }
+    ensures { Passes [] (one ASC ▸ way 0 ∣ one DESC ▸ way 1 ∣ way 0) rest.entry (flag_marks result.0) result.1 }
+{
+    if let Some(rest) = rest.word(LexemeKind::Asc) {
+        return (false, rest);
+    }
+    match rest.word(LexemeKind::Desc) {
+        Some(rest) => (true, rest),
+        None => (false, rest),
+    }
+}
+
+/// A key of ORDER BY.
+fn key_of<'a>(alloc: Global, rest: Rest<'a>) -> Result<(Key, Rest<'a>), ParseError>
+    requires { IsKnown rest }
+    ensures reads { Reads (λ x. key_marks x.0) (λ x. x.1) key rest.entry result }
+    ensures given { IfOk result (λ x. IsGivenKey x.0) }
+{
+    let (by, rest) = key_column_of(alloc, rest)?;
+    let (descending, rest) = descending_of(rest);
+    Ok((Key { by, descending }, rest))
+}
+
+/// The keys of ORDER BY.
+fn keys_of<'a>(alloc: Global, rest: Rest<'a>) -> Result<(Items<Key>, Rest<'a>), ParseError>
+    requires { IsKnown rest }
+    ensures reads { Reads (λ x. listed_marks (map key_marks x.0)) (λ x. x.1) (listed key) rest.entry result }
+    ensures filled { IfOk result (λ x. 1 ≤ length x.0) }
+    ensures given { IfOk result (λ x. Each IsGivenKey x.0) }
+{
+    let (first, mut rest) = key_of(alloc, rest)?;
+    let mut keys = Items::new(alloc);
+    keys.push(first)?;
+    while let Some(behind) = rest.word(LexemeKind::Comma) {
+        let (next, behind) = key_of(alloc, behind)?;
+        keys.push(next)?;
+        rest = behind;
+    }
+    Ok((keys, rest))
+}
+
+/// The columns of GROUP BY.
+fn columns_of<'a>(
+    alloc: Global,
+    rest: Rest<'a>,
+) -> Result<(Items<ColumnName>, Rest<'a>), ParseError>
+    requires { IsKnown rest }
+    ensures reads { Reads (λ x. listed_marks (map column_marks x.0)) (λ x. x.1) (listed name_part) rest.entry result }
+    ensures filled { IfOk result (λ x. 1 ≤ length x.0) }
+    ensures given { IfOk result (λ x. Each IsAlone x.0) }
+{
+    let (first, mut rest) = column_of(alloc, rest)?;
+    let mut columns = Items::new(alloc);
+    columns.push(first)?;
+    while let Some(behind) = rest.word(LexemeKind::Comma) {
+        let (next, behind) = column_of(alloc, behind)?;
+        columns.push(next)?;
+        rest = behind;
+    }
+    Ok((columns, rest))
+}
+
+/// GROUP BY, if it stands here.
+fn group_of<'a>(alloc: Global, rest: Rest<'a>) -> Result<(Items<ColumnName>, Rest<'a>), ParseError>
+    requires { IsKnown rest }
+    ensures reads { Reads (λ x. maybe_listed (map column_marks x.0)) (λ x. x.1) (maybe (one GROUP ▸ one BY ▸ listed name_part)) rest.entry result }
+    ensures given { IfOk result (λ x. Each IsAlone x.0) }
+{
+    let Some(rest) = rest.word(LexemeKind::Group) else {
+        return Ok((Items::new(alloc), rest));
+    };
+    let rest = after(LexemeKind::By, rest)?;
+    let (columns, rest) = columns_of(alloc, rest)?;
+    Ok((columns, rest))
+}
+
+/// ORDER BY, if it stands here.
+fn order_of<'a>(alloc: Global, rest: Rest<'a>) -> Result<(Items<Key>, Rest<'a>), ParseError>
+    requires { IsKnown rest }
+    ensures reads { Reads (λ x. maybe_listed (map key_marks x.0)) (λ x. x.1) (maybe (one ORDER ▸ one BY ▸ listed key)) rest.entry result }
+    ensures given { IfOk result (λ x. Each IsGivenKey x.0) }
+{
+    let Some(rest) = rest.word(LexemeKind::Order) else {
+        return Ok((Items::new(alloc), rest));
+    };
+    let rest = after(LexemeKind::By, rest)?;
+    let (keys, rest) = keys_of(alloc, rest)?;
+    Ok((keys, rest))
+}
+
+/// LIMIT, if it stands here.
+fn limit_of(rest: Rest<'_>) -> Result<(Option<Number>, Rest<'_>), ParseError>
+    requires { IsKnown rest }
+    ensures { Reads (λ x. maybe_marks number_marks x.0) (λ x. x.1) (maybe (one LIMIT ▸ number_part)) rest.entry result }
+{
+    let Some(rest) = rest.word(LexemeKind::Limit) else {
+        return Ok((None, rest));
+    };
+    let (number, rest) = number_of(rest)?;
+    Ok((Some(number), rest))
+}
+
+/// What stands behind the table of a query.
+fn query_end_of<'a>(
+    alloc: Global,
+    levels: u32,
+    rest: Rest<'a>,
+) -> Result<(QueryEnd, Rest<'a>), ParseError>
+    requires { IsKnown rest }
+    ensures reads { Reads (λ x. query_end_marks x.0) (λ x. x.1) (read_query_end levels) rest.entry result }
+    ensures given { IfOk result (λ x. IsGivenQueryEnd x.0) }
+{
+    let (clause, rest) = optional_clause(alloc, rest)?;
+    let (filter, rest) = filter_of(alloc, levels, rest)?;
+    let (group, rest) = group_of(alloc, rest)?;
+    let (order, rest) = order_of(alloc, rest)?;
+    let (limit, rest) = limit_of(rest)?;
+    let end = QueryEnd {
+        clause,
+        filter,
+        group,
+        order,
+        limit,
+    };
+    Ok((end, rest))
+}
+
+/// A query of its parts, with one table.
+fn query_with(
+    alloc: Global,
+    place: u32,
+    selection: Selection,
+    table: TableName,
+    end: QueryEnd,
+) -> Query
+    ensures marks { query_marks result ≡ At place ∷ (selection_marks selection ++ (table_marks table ++ query_end_marks end)) }
+    ensures given { IsGivenSelection selection → IsAloneTable table → IsGivenQueryEnd end → IsGivenQuery result }
+{
+    let clause = end.clause;
+    Query {
+        place,
+        selection,
+        first: Source { table, clause },
+        joins: Items::new(alloc),
+        filter: end.filter,
+        group: end.group,
+        order: end.order,
+        limit: end.limit,
+    }
+}
+
+/// A query.
+pub fn query_of<'a>(
+    alloc: Global,
+    levels: u32,
+    rest: Rest<'a>,
+) -> Result<(Query, Rest<'a>), ParseError>
+    requires { IsKnown rest }
+    ensures reads { Reads (λ x. query_marks x.0) (λ x. x.1) (read_query levels) rest.entry result }
+    ensures given { IfOk result (λ x. IsGivenQuery x.0) }
+{
+    let (place, rest) = place_of(LexemeKind::Select, rest)?;
+    let (selection, rest) = selection_of(alloc, levels, rest)?;
+    let rest = after(LexemeKind::From, rest)?;
+    let (table, rest) = table_of(alloc, rest)?;
+    let (end, rest) = query_end_of(alloc, levels, rest)?;
+    let query = query_with(alloc, place, selection, table, end);
+    Ok((query, rest))
+}

@@ -1,0 +1,12 @@
+pub mod Days
+pub mod Exits
+pub mod KindEnds
+pub mod Literals
+pub mod Names
+pub mod Numbers
+pub mod OneOf
+pub mod Quotes
+pub mod Running
+pub mod Steps
+pub mod Tools
+pub mod Words
