@@ -8,8 +8,7 @@ ghost use Rattle.tt_run.specs.Reading.{as_read};
 use std::alloc::{AllocError, Global};
 use tt_lex::{LexFault, TokensError, tokens};
 use tt_parse::{ParseError, parse};
-use tt_sql::built::built;
-use tt_sql::{Statement, Syntax};
+use tt_sql::{Statement, Syntax, built};
 
 fn fault_place(fault: LexFault) -> u32
     ensures { result ≡ place_of fault }

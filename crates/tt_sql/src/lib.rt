@@ -1,7 +1,7 @@
 //! SQL: its grammar, statements as trees, and what they mean.
 #![tactic(auto)]
 
-pub mod built;
+mod carried;
 pub mod change;
 pub mod examples;
 pub mod grammar_laws;
@@ -12,6 +12,7 @@ pub mod statement;
 pub mod table;
 pub mod tree_laws;
 
+pub use carried::built;
 pub use change::{Copy, Delete, Dml, Insert, InsertSource, Set, Tuple, Update};
 pub use printing::print;
 pub use query::{

@@ -12,10 +12,9 @@ use std::test::*;
 use tt_history::{Refusal, Reply, Told};
 use tt_plain::PlainSession;
 use tt_script::{Program, read};
-use tt_sql::built::built;
 use tt_sql::{
     ColumnDefinition, CreatedTable, Dml, Insert, InsertSource, Query, Selection, Source, Statement,
-    TableKind, TableOptions, Tuple,
+    TableKind, TableOptions, Tuple, built,
 };
 use tt_value::{Kind, Literal, Name, Row, Sequence, TableName, Text, Value};
 
