@@ -1,4 +1,4 @@
--- The value of a sum of a column and a written value.
+-- The value of a column alone, and of a sum of a column and a written value.
 use Rattle.std.proofs.Common.{◌≡◌, rules, Bool, List, Option, Some, None, ap, sym, ◌∙◌}
 use Rattle.tt_value.specs.declared.value.Value.{Value}
 use Rattle.tt_value.specs.declared.value.Row.{Row}
@@ -19,7 +19,7 @@ use Rattle.tt_value.specs.declared.predicate.Operand.{Operand}
 use Rattle.tt_value.specs.declared.predicate.Operand.TheVariants as operand
 use Rattle.tt_value.specs.Truths.{or_truth, and_truth, not_truth, not_if, truth_of_bool}
 use Rattle.tt_value.specs.PredicateMeaning.{unit_truth, all_truth, any_truth, truth_of, comparison_truth, in_truth, between_truth, operand_value, is_null as null_test}
-use Rattle.tt_sql.specs.MeaningExamples.{sum, compare, is_null, is_in, is_between, negation, one, both, whole, either}
+use Rattle.tt_sql.specs.MeaningExamples.{alone, sum, compare, is_null, is_in, is_between, negation, one, both, whole, either}
 
 module _ (scope : Scope) (row : Row) where
   abbrev V : Type 0
@@ -30,6 +30,10 @@ module _ (scope : Scope) (row : Row) where
 
   literal_is : (l : Literal) → fold-Factor V (Sign × V) V V (factor_value scope row) (addend_value scope row) (sum_value scope row) (product_value scope row) (factor.Literal l) ≡ Some l.value
   literal_is l = ap (fold-Factor V (Sign × V) V V (factor_value scope row) (addend_value scope row) (sum_value scope row) (product_value scope row)) (sym (rolls-Literal l)) ∙ fold-roll-Factor V (Sign × V) V V (factor_value scope row) (addend_value scope row) (sum_value scope row) (product_value scope row) _
+
+  pub value_of_column : (c : ColumnName) → value_of scope row (alone (factor.Column c)) ≡ Some (column_value scope row c)
+  unfolding value_of
+  value_of_column c = search (rules, column_is, fold-roll-Expr V (Sign × V) V V (factor_value scope row) (addend_value scope row) (sum_value scope row) (product_value scope row), fold-roll-Term V (Sign × V) V V (factor_value scope row) (addend_value scope row) (sum_value scope row) (product_value scope row))
 
   pub value_of_sum : (c : ColumnName) (l : Literal) → value_of scope row (sum (factor.Column c) (factor.Literal l)) ≡ then_both (add_signed Plus) (Some (column_value scope row c)) (Some l.value)
   unfolding value_of

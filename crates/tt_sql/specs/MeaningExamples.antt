@@ -44,6 +44,14 @@ strict = record {
       ∷ record { name = codes "S"; kind = kinds.Varchar; nullable = true } ∷ [];
 }
 
+-- two columns of numbers, X and Y
+abbrev pub numbers : Schema
+numbers = record {
+  columns =
+      record { name = codes "X"; kind = kinds.Int; nullable = true }
+      ∷ record { name = codes "Y"; kind = kinds.Int; nullable = true } ∷ [];
+}
+
 abbrev pub scope : Scope
 scope = table_scope schema
 
@@ -64,6 +72,9 @@ column bytes = record { table = None; name = name bytes }
 
 abbrev pub x : ColumnName
 x = column (codes "X")
+
+abbrev pub y : ColumnName
+y = column (codes "Y")
 
 abbrev pub d : ColumnName
 d = column (codes "D")

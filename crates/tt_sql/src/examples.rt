@@ -16,13 +16,14 @@ ghost use Rattle.tt_sql.specs.declared.query.KeyColumn.TheVariants as key;
 ghost use Rattle.tt_sql.specs.QueryMeaning.{item_value, answer_of};
 ghost use Rattle.tt_sql.specs.ChangeMeaning.{Changes, NullInRow, OutOfRange, update_change, delete_change, insert_change};
 ghost use Rattle.tt_sql.specs.declared.change.InsertSource.TheVariants as source;
-ghost use Rattle.tt_sql.specs.MeaningExamples.{scope, row_of, ints, just_ints, x, d, s, int, literal, number, name, query, alone, sum, schema, strict, table, compare, is_null, is_in, is_between, negation, one, both, whole, either};
+ghost use Rattle.tt_sql.specs.MeaningExamples.{scope, row_of, ints, just_ints, x, y, d, s, int, literal, number, name, query, alone, sum, schema, strict, numbers, table, compare, is_null, is_in, is_between, negation, one, both, whole, either};
 
 /// NULL in comparisons, IN, BETWEEN, AND, OR and NOT; dates in quotes.
 #[tactic(auto, unfolding(tt_value::specs::Order::value_cmp, tt_value::specs::CalendarReading::day_of))]
 pub fn predicates_by_example()
     // 1 = NULL, NULL = NULL
     ensures null_is_unknown { comparison_truth scope (row_of (Int (pos 1)) Null Null) (operand.Column x) Equal (operand.Literal (literal Null)) ≡ Unknown }
+    ensures two_nulls { comparison_truth scope (row_of Null Null Null) (operand.Column x) Equal (operand.Literal (literal Null)) ≡ Unknown }
     // FALSE AND NULL, TRUE OR NULL, NOT NULL
     ensures false_and_null { and_truth False Unknown ≡ False }
     ensures null_and_true { and_truth Unknown True ≡ Unknown }
@@ -73,14 +74,17 @@ pub fn numbers_by_example()
     ensures least_negated { negated (Int (neg_ℤ (pos 9223372036854775808))) ≡ None }
 {}
 
-/// A sum out of range in a row that the limit cuts off, and two rows alike that are changed.
-#[tactic(auto, using(crate::proofs::ExampleLaws::value_of_sum), unfolding(tt_value::specs::Order::value_cmp, tt_value::specs::Order::row_cmp, crate::specs::QueryMeaning::answer_of, crate::specs::QueryMeaning::selected_rows, crate::specs::QueryMeaning::arranged))]
+/// A sum out of range in a row that the limit cuts off, two rows alike that are changed, and SETs that read the old row.
+#[tactic(auto, using(crate::proofs::ExampleLaws::value_of_sum, crate::proofs::ExampleLaws::value_of_column), unfolding(tt_value::specs::Order::value_cmp, tt_value::specs::Order::row_cmp, crate::specs::QueryMeaning::answer_of, crate::specs::QueryMeaning::selected_rows, crate::specs::QueryMeaning::arranged))]
 pub fn changes_by_example()
     // SELECT x + 1 FROM t LIMIT 0 over the greatest number
     ensures limit_hides_nothing { answer_of scope (query (selection.Listed (item.Expr (sum (factor.Column x) (factor.Literal (int 1))) ∷ [])) [] [] (Some (number 0))) (ints (9223372036854775807 ∷ [])) ≡ None }
     // UPDATE t SET x = x + 10 over 1, 1
     ensures update_copies { update_change schema (ints (1 ∷ 1 ∷ [])) (record { table = table; sets = record { column = name (codes "X"); value = sum (factor.Column x) (factor.Literal (int 10)) } ∷ []; filter = None })
         ≡ Changes (ints (1 ∷ 1 ∷ [])) (ints (11 ∷ 11 ∷ [])) 2 }
+    // UPDATE t SET x = y, y = x exchanges, since both read the old row
+    ensures exchange { update_change numbers (record { values = Int (pos 1) ∷ Int (pos 2) ∷ [] } ∷ []) (record { table = table; sets = record { column = name (codes "X"); value = alone (factor.Column y) } ∷ record { column = name (codes "Y"); value = alone (factor.Column x) } ∷ []; filter = None })
+        ≡ Changes (record { values = Int (pos 1) ∷ Int (pos 2) ∷ [] } ∷ []) (record { values = Int (pos 2) ∷ Int (pos 1) ∷ [] } ∷ []) 1 }
     // UPDATE t SET x = x + NULL where x is NOT NULL
     ensures null_in_row { update_change strict (ints (1 ∷ [])) (record { table = table; sets = record { column = name (codes "X"); value = sum (factor.Column x) (factor.Literal (literal Null)) } ∷ []; filter = None }) ≡ NullInRow 1 }
     // DELETE FROM t
