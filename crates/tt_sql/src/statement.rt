@@ -44,8 +44,10 @@ pub enum TimeUnit {
     Milliseconds,
 }
 
-/// A text that is no statement: the byte offset of the first token with which no statement goes on, or
-/// the text's length where it ends too early.
+/// A text that is no statement, with the byte offset of its fault: that of the lexer's fault, or else of the
+/// first token with which no statement goes on, or the text's length where it ends too early. Where only the
+/// limit on open levels is in the way, it is that of the token that would open a level too many, such as a
+/// minus in front of the first token with which no statement goes on.
 #[derive(Clone, Copy, Debug, PartialEq, Eq)]
 pub struct Syntax {
     pub place: u32,
