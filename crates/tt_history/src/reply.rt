@@ -46,11 +46,14 @@ pub struct SharedBag {
     bag: Arc<Bag>,
 }
 
-/// What a statement answers. The rows of a query come in the order of its answer.
+/// What a statement answers. The rows of a query come in the order of its answer. They stand in a bag, which
+/// is sorted: that is this order as long as no ORDER BY is carried out.
 #[derive(Debug, Drop)]
 pub enum Reply {
     Ok,
     Inserted(u64),
+    Updated(u64),
+    Deleted(u64),
     Rows(SharedBag),
     Refused(Refusal),
     Memory,

@@ -110,6 +110,8 @@ row_line row = codes ": " ++ row_text row ++ line_feed
 unfoldable pub reply_text : Script → Reply → List ℕ
 reply_text program reply.Ok = codes "= ok" ++ line_feed
 reply_text program (reply.Inserted count) = codes "= " ++ decimal count ++ codes " inserted" ++ line_feed
+reply_text program (reply.Updated count) = codes "= " ++ decimal count ++ codes " updated" ++ line_feed
+reply_text program (reply.Deleted count) = codes "= " ++ decimal count ++ codes " deleted" ++ line_feed
 reply_text program (reply.Rows rows) = flat_map row_line rows ++ codes "= " ++ decimal (length rows) ++ codes " rows" ++ line_feed
 reply_text program (reply.Refused r) = codes "! " ++ refusal_text program r ++ line_feed
 reply_text program reply.Memory = codes "! memory" ++ line_feed

@@ -301,6 +301,14 @@ fn write_reply(program: &Script, reply: &Reply, out: &mut Vec<u8>) -> Result<(),
             write_numbered(b"= ", *count, out)?;
             write_bytes(b" inserted\n", out)?;
         }
+        Reply::Updated(count) => {
+            write_numbered(b"= ", *count, out)?;
+            write_bytes(b" updated\n", out)?;
+        }
+        Reply::Deleted(count) => {
+            write_numbered(b"= ", *count, out)?;
+            write_bytes(b" deleted\n", out)?;
+        }
         Reply::Rows(bag) => {
             let rows = bag.bag().rows();
             write_rows(rows, out)?;

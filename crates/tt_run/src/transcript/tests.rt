@@ -293,6 +293,11 @@ fn each_reply_has_its_lines(rt: HostRuntime) -> Result<(), Fail> {
     for (reply, wanted) in [
         (Reply::Ok, "= ok\n"),
         (Reply::Inserted(0), "= 0 inserted\n"),
+        (Reply::Updated(2), "= 2 updated\n"),
+        (
+            Reply::Deleted(18_446_744_073_709_551_615),
+            "= 18446744073709551615 deleted\n",
+        ),
         (Reply::Rows(no_rows), "= 0 rows\n"),
         (Reply::Rows(rows), ": -1\n: 7\n= 2 rows\n"),
         (
