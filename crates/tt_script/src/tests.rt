@@ -189,27 +189,38 @@ fn the_first_faulty_line_is_given(rt: HostRuntime) -> Result<(), Fail> {
 }
 
 /// A session with so many statements on one line, and two more on lines of their own.
-fn many_statements(alloc: Global, first: usize) -> Result<Vec<u8>, AllocError> {
-    let mut text = bytes_of(alloc, "%session a\n")?;
+fn many_statements(alloc: Global, first: usize) -> Result<String, AllocError> {
+    let mut text = String::from_str(alloc, "%session a\n")?;
     for _ in 0..first {
-        text.extend_from_slice(b"x;")?;
+        text.push_str("x;")?;
     }
-    text.extend_from_slice(b"\nx;\n  x")?;
+    text.push_str("\nx;\n  x")?;
     Ok(text)
 }
 
 #[test]
+fn a_script_may_have_100000_statements(rt: HostRuntime) -> Result<(), Fail> {
+    let text = many_statements(rt.alloc(), 99_998)?;
+    let program = program(&rt, text.as_str())?;
+    let sessions = &program.script().sessions;
+    assert_eq!(rt; sessions.len(), 1);
+    for session in sessions.items() {
+        assert_eq!(rt; session.statements.len(), 100_000);
+    }
+    Ok(())
+}
+
+#[test]
 fn the_line_of_the_100001st_statement_is_faulty(rt: HostRuntime) -> Result<(), Fail> {
-    let most = many_statements(rt.alloc(), 99_998)?;
-    assert_eq!(rt; place_of(&rt, most), None);
     let late = many_statements(rt.alloc(), 99_999)?;
-    assert_eq!(rt; place_of(&rt, late), Some(200_013));
+    assert_faulty(&rt, late.as_bytes(), 200_013)?;
     let mut later_fault = many_statements(rt.alloc(), 99_999)?;
-    later_fault.extend_from_slice(b"\n%session b")?;
-    assert_eq!(rt; place_of(&rt, later_fault), Some(200_013));
-    let mut same_line = many_statements(rt.alloc(), 100_001)?;
+    later_fault.push_str("\n%session b")?;
+    assert_faulty(&rt, later_fault.as_bytes(), 200_013)?;
+    let text = many_statements(rt.alloc(), 100_001)?;
+    let mut same_line = bytes_of(rt.alloc(), text.as_str())?;
     same_line.extend_from_slice(b"\n\xff")?;
-    assert_eq!(rt; place_of(&rt, same_line), Some(11));
+    assert_faulty(&rt, same_line.as_slice(), 11)?;
     Ok(())
 }
 
