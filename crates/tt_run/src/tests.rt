@@ -137,6 +137,33 @@ fn scripts_are_cut_and_begun_as_they_say(rt: HostRuntime) -> Result<(), Fail> {
 }
 
 #[test]
+fn texts_without_an_end_and_long_names(rt: HostRuntime) -> Result<(), Fail> {
+    let rows: [(&str, &[u8], &[u8]); 4] = [
+        (
+            "a text that is not closed is a fault at its quote",
+            b"%session a\nSELECT 'x",
+            b"@1 a 1 start refused 1\n! 1 Syntax 7\n%end 1\n",
+        ),
+        (
+            "a statement that ends too early has its fault at its end",
+            b"%session a\nSELECT 'x'",
+            b"@1 a 1 start refused 1\n! 1 Syntax 10\n%end 1\n",
+        ),
+        (
+            "a table's name has at most 64 bytes",
+            b"%session a\nCREATE TABLE abcdefghabcdefghabcdefghabcdefghabcdefghabcdefghabcdefghabcdefgh (x INT);CREATE TABLE abcdefghabcdefghabcdefghabcdefghabcdefghabcdefghabcdefghabcdefghi (x INT);SELECT * FROM abcdefghabcdefghabcdefghabcdefghabcdefghabcdefghabcdefghabcdefghi",
+            b"@1 a 1 define\n= ok\n@2 a 2 start refused 1\n! 1 Syntax 13\n@3 a 3 start refused 1\n! 1 Syntax 14\n%end 3\n",
+        ),
+        (
+            "a session's name has at most 16 bytes",
+            b"%session abcdefghijklmno9\nSELECT * FROM t",
+            b"@1 abcdefghijklmno9 1 start refused 2\n! 2 UnknownTable 14\n%end 1\n",
+        ),
+    ];
+    Ok(have_transcripts(&rt, rt.alloc(), &rows)?)
+}
+
+#[test]
 fn values_are_stored_by_their_columns(rt: HostRuntime) -> Result<(), Fail> {
     let rows: [(&str, &[u8], &[u8]); 2] = [
         (
@@ -254,7 +281,7 @@ fn what_is_not_built_is_no_statement(rt: HostRuntime) -> Result<(), Fail> {
 
 #[test]
 fn inputs_are_bad_at_their_first_faulty_line(rt: HostRuntime) -> Result<(), Fail> {
-    let inputs: [(&[u8], u64); 9] = [
+    let inputs: [(&[u8], u64); 11] = [
         (b"x", 0),
         (b"%session A\n", 0),
         (b"%session a\nSELECT * FROM t;\n%session b\n", 28),
@@ -264,6 +291,8 @@ fn inputs_are_bad_at_their_first_faulty_line(rt: HostRuntime) -> Result<(), Fail
         (b" \n\t\nx\n", 4),
         (b"%session a\n\xff\n", 11),
         (b"%session a \n", 0),
+        (b"%session a\n%session a\n", 11),
+        (b"%start 5\n%session abcdefghijklmno90\n", 9),
     ];
     for (input, place) in inputs {
         let (status, written) = replayed(rt.alloc(), input)?;
@@ -365,6 +394,19 @@ fn a_comment_may_be_as_long_as_the_input(rt: HostRuntime) -> Result<(), Fail> {
     let answer = called(rt.alloc(), &mut source, &mut sink)?;
     assert!(rt; answer == (Status::Ok, true));
     assert!(rt; sink.bytes() == b"%end 0\n".as_slice());
+    Ok(())
+}
+
+#[test]
+fn a_script_of_100_001_statements_is_bad_in_its_last_line(rt: HostRuntime) -> Result<(), Fail> {
+    let mut script = Vec::from_slice(rt.alloc(), b"%session a\n")?;
+    for _ in 0..100_000 {
+        script.extend_from_slice(b"x;")?;
+    }
+    script.extend_from_slice(b"\nx")?;
+    let (status, written) = replayed(rt.alloc(), script.as_slice())?;
+    assert!(rt; status == Status::BadInput(200_012));
+    assert!(rt; written.is_empty());
     Ok(())
 }
 
