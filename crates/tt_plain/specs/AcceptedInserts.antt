@@ -28,7 +28,7 @@ use Rattle.tt_sql.specs.declared.change.Dml.TheVariants as dml
 use Rattle.tt_sql.specs.declared.statement.Statement.TheVariants as statement
 use Rattle.tt_sql.specs.Built.{has_values, built}
 use Rattle.tt_sql.specs.ChangeMeaning.{is_missing, is_missing_at, first_missing, for_column, given_value, in_order, stored_row, tuple_values, stores}
-use Rattle.tt_plain.specs.Places.{each, each_at, if_there}
+use Rattle.tt_plain.specs.Places.{each, each_at, if_there, table_begin}
 use Rattle.tt_plain.specs.Columns.{target_column}
 use Rattle.tt_plain.specs.Kinds.{literal_fits, unless, misfit_literal}
 use Rattle.tt_plain.specs.TypeMismatches.{kind_in, misfit_value, misfit_in_tuple}
@@ -228,22 +228,22 @@ values_are (source.Query q) h = absurd (false≢true h)
 tuples_accepted : (schema : Schema) (insert : Insert) (tuples : List Tuple) → insert.source ≡ source.Values tuples → IsWellTyped (schema ∷ []) (statement.Dml (dml.Insert insert)) → (k : ℕ) (t : Tuple) → slice_get tuples k ≡ Some t → IsAccepted schema insert.columns t
 tuples_accepted schema insert tuples is typed k t at =
     let counts = nil_both (if_there (named_again schema) insert.columns) (each (miscounted_tuple (width schema insert.columns)) tuples) (rw is at typed.counts) in
-    let nulls = nil_both (if_there (left_out schema insert.table.name.place) insert.columns) (each (nulls_in_tuple schema insert.columns) tuples) (rw is at typed.nulls) in
+    let nulls = nil_both (if_there (left_out schema (table_begin insert.table)) insert.columns) (each (nulls_in_tuple schema insert.columns) tuples) (rw is at typed.nulls) in
     record {
       count = equal_unless t.place (length t.values) (width schema insert.columns) (nil_each (miscounted_tuple (width schema insert.columns)) tuples k t counts.1 at);
       kinds = nil_each (misfit_in_tuple schema insert.columns) tuples k t (rw is at typed.kinds) at;
       nulls = nil_each (nulls_in_tuple schema insert.columns) tuples k t nulls.1 at;
     }
 
-left_accepted : (schema : Schema) (insert : Insert) (tuples : List Tuple) → insert.source ≡ source.Values tuples → IsWellTyped (schema ∷ []) (statement.Dml (dml.Insert insert)) → if_there (left_out schema insert.table.name.place) insert.columns ≡ []
+left_accepted : (schema : Schema) (insert : Insert) (tuples : List Tuple) → insert.source ≡ source.Values tuples → IsWellTyped (schema ∷ []) (statement.Dml (dml.Insert insert)) → if_there (left_out schema (table_begin insert.table)) insert.columns ≡ []
 left_accepted schema insert tuples is typed =
-    (nil_both (if_there (left_out schema insert.table.name.place) insert.columns) (each (nulls_in_tuple schema insert.columns) tuples) (rw is at typed.nulls)).0
+    (nil_both (if_there (left_out schema (table_begin insert.table)) insert.columns) (each (nulls_in_tuple schema insert.columns) tuples) (rw is at typed.nulls)).0
 
 -- the rows of the tuples, each value in its column
 pub accepted_adds : (schema : Schema) (insert : Insert) (tuples : List Tuple) → IsFoundByName schema → insert.source ≡ source.Values tuples → IsWellTyped (schema ∷ []) (statement.Dml (dml.Insert insert)) → added_rows schema insert ≡ Some (map (stored_row schema insert.columns) (map tuple_values tuples))
 unfolding added_rows
 accepted_adds schema insert tuples found is typed =
-    let missing = none_missing schema insert.columns insert.table.name.place tuples found (tuples_accepted schema insert tuples is typed) (left_accepted schema insert tuples is typed) in
+    let missing = none_missing schema insert.columns (table_begin insert.table) tuples found (tuples_accepted schema insert tuples is typed) (left_accepted schema insert tuples is typed) in
     rw is (ap (λ m. rows_added (stores [] (rows_of_tuples schema insert.columns tuples) (length (rows_of_tuples schema insert.columns tuples)) m)) missing)
 
 -- what an INSERT adds to a table of this schema: the rows of its tuples

@@ -9,12 +9,9 @@ use Rattle.tt_sql.specs.declared.table.Change.TheVariants as change
 use Rattle.tt_sql.specs.declared.statement.Statement.{Statement}
 use Rattle.tt_sql.specs.declared.statement.Statement.TheVariants as statement
 use Rattle.tt_plain.specs.declared.plain.PlainTable.{PlainTable}
-use Rattle.tt_plain.specs.Places.{each, where_none, name_begin}
+use Rattle.tt_plain.specs.Places.{each, where_none, table_begin}
 use Rattle.tt_plain.specs.Tables.{tables_of}
 use Rattle.tt_plain.specs.Store.{live_table}
-
-abbrev pub table_begin : TableName → ℕ
-table_begin table = name_begin table.schema table.name.place
 
 abbrev pub live_at : List PlainTable → TableName → Option PlainTable
 live_at tables name = live_table tables name.name.text

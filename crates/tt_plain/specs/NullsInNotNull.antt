@@ -19,7 +19,7 @@ use Rattle.tt_sql.specs.declared.change.Tuple.{Tuple}
 use Rattle.tt_sql.specs.declared.change.Set.{Set}
 use Rattle.tt_sql.specs.declared.statement.Statement.{Statement}
 use Rattle.tt_sql.specs.declared.statement.Statement.TheVariants as statement
-use Rattle.tt_plain.specs.Places.{each, each_at, if_there}
+use Rattle.tt_plain.specs.Places.{each, each_at, if_there, table_begin}
 use Rattle.tt_plain.specs.Columns.{column_named, target_column}
 use Rattle.tt_plain.specs.Expressions.{lone_literal}
 use Rattle.tt_plain.specs.WrongCounts.{is_name}
@@ -59,12 +59,12 @@ nulls_in_source schema names (source.Query q) = nulls_in_selection schema names 
 abbrev pub is_left_out : List Name → Column → Bool
 is_left_out names column = not column.nullable && not (list_any (is_name column.name) names)
 
--- at the table's name
+-- at the place of the table
 abbrev pub left_out : Schema → ℕ → List Name → List ℕ
 left_out schema place names = if list_any (is_left_out names) schema.columns then place ∷ [] else []
 
 abbrev pub nulls_in_insert : Schema → Insert → List ℕ
-nulls_in_insert schema i = if_there (left_out schema i.table.name.place) i.columns ++ nulls_in_source schema i.columns i.source
+nulls_in_insert schema i = if_there (left_out schema (table_begin i.table)) i.columns ++ nulls_in_source schema i.columns i.source
 
 abbrev pub null_set : Schema → Set → List ℕ
 null_set schema s = if_there (null_literal (column_named schema s.column)) (lone_literal s.value)

@@ -2,6 +2,7 @@
 use Rattle.std.specs.Prelude.{ℕ, ◌+◌, min, List, [], ◌∷◌, ◌++◌, Option, Some, None}
 use Rattle.tt_value.specs.declared.name.Name.{Name}
 use Rattle.tt_value.specs.declared.name.ColumnName.{ColumnName}
+use Rattle.tt_value.specs.declared.name.TableName.{TableName}
 use Rattle.tt_value.specs.declared.predicate.Operand.{Operand}
 use Rattle.tt_value.specs.declared.predicate.Operand.TheVariants as operand
 
@@ -42,6 +43,9 @@ name_begin (Some front) place = front.place
 
 abbrev pub column_begin : ColumnName → ℕ
 column_begin c = name_begin c.table c.name.place
+
+abbrev pub table_begin : TableName → ℕ
+table_begin table = name_begin table.schema table.name.place
 
 abbrev pub operand_begin : Operand → ℕ
 operand_begin (operand.Column c) = column_begin c

@@ -18,7 +18,8 @@ use Rattle.tt_history.specs.declared.reply.Refusal.TheVariants.{UnknownTable, Ta
 use Rattle.tt_plain.specs.declared.plain.Plain.{Plain}
 use Rattle.tt_plain.specs.declared.plain.PlainTable.{PlainTable}
 use Rattle.tt_plain.specs.Tables.{tables_of, source_tables, TakesFromOneTable, IsOverOneTable}
-use Rattle.tt_plain.specs.NamedTables.{table_begin, live_at, made_tables, schemas_of}
+use Rattle.tt_plain.specs.Places.{table_begin}
+use Rattle.tt_plain.specs.NamedTables.{live_at, made_tables, schemas_of}
 use Rattle.tt_plain.specs.TypingRefusal.{typing_refusal}
 use Rattle.tt_plain.specs.Refusals.{refusal_over, refusal_in, refusal_of}
 use Rattle.tt_plain.specs.StoreLaws.{IsNext, next_from}

@@ -4,8 +4,8 @@ ghost use Rattle.std.specs.Str.{bytes_eq};
 ghost use Rattle.tt_sql.specs.Built.{built as is_built};
 ghost use Rattle.tt_sql.specs.declared.statement.Statement.{Statement as StatementTree};
 ghost use Rattle.tt_sql.specs.declared.statement.Statement.TheVariants as tree;
-ghost use Rattle.tt_plain.specs.Places.{name_begin};
-ghost use Rattle.tt_plain.specs.NamedTables.{table_begin as begin_of, live_at};
+ghost use Rattle.tt_plain.specs.Places.{name_begin, table_begin as begin_of};
+ghost use Rattle.tt_plain.specs.NamedTables.{live_at};
 ghost use Rattle.tt_plain.specs.Refusals.{refusal_over, refusal_number as number_of};
 ghost use Rattle.tt_plain.specs.RefusalLaws.{IsOnTable};
 

@@ -7,7 +7,7 @@ use Rattle.tt_sql.specs.declared.change.Insert.{Insert}
 use Rattle.tt_sql.specs.declared.change.InsertSource.{InsertSource}
 use Rattle.tt_sql.specs.declared.change.InsertSource.TheVariants as source
 use Rattle.tt_sql.specs.declared.change.Dml.TheVariants as dml
-use Rattle.tt_plain.specs.Places.{each, if_there}
+use Rattle.tt_plain.specs.Places.{each, if_there, table_begin}
 use Rattle.tt_plain.specs.Tables.{schema_at}
 use Rattle.tt_plain.specs.UnknownColumns.{unknown_among, unknown_in_source}
 use Rattle.tt_plain.specs.WrongCounts.{named_again, width, miscounted_source}
@@ -46,10 +46,10 @@ with_source target sources i given = finds
     (if_there (each (unknown_among target)) i.columns ++ unknown_in_source sources given)
     (if_there (named_again target) i.columns ++ miscounted_source sources (width target i.columns) given)
     (misfit_in_source target i.columns sources given)
-    (if_there (left_out target i.table.name.place) i.columns ++ nulls_in_source target i.columns given)
+    (if_there (left_out target (table_begin i.table)) i.columns ++ nulls_in_source target i.columns given)
 
-pub select_is : (schemas : List Schema) (i : Insert) (q : Query) → i.source ≡ source.Query q → q.joins ≡ [] → length schemas ≡ length (i.table ∷ query_tables q) → select_found (schema_at schemas 0) (target_scope q.first.table (schema_at schemas 1)) i.columns i.table.name.place q ≡ dml_found schemas (dml.Insert i)
+pub select_is : (schemas : List Schema) (i : Insert) (q : Query) → i.source ≡ source.Query q → q.joins ≡ [] → length schemas ≡ length (i.table ∷ query_tables q) → select_found (schema_at schemas 0) (target_scope q.first.table (schema_at schemas 1)) i.columns (table_begin i.table) q ≡ dml_found schemas (dml.Insert i)
 select_is [] i q is none long = absurd (omega (arith, long))
 select_is (s ∷ []) i q is none long = absurd (omega (arith, long))
 select_is (s ∷ r ∷ more) i q is none long =
-    sym (ap (with_source s (r ∷ more) i) is ∙ ap (λ scope. select_found s scope i.columns i.table.name.place q) (one_scope q (r ∷ more) none (omega (arith, long))))
+    sym (ap (with_source s (r ∷ more) i) is ∙ ap (λ scope. select_found s scope i.columns (table_begin i.table) q) (one_scope q (r ∷ more) none (omega (arith, long))))

@@ -2,6 +2,7 @@
 
 ghost use Rattle.std.specs.Prelude.{◌≡◌, ◌<◌, length, []};
 ghost use Rattle.tt_sql.specs.Scopes.{query_tables};
+ghost use Rattle.tt_plain.specs.Places.{table_begin as begin_of};
 ghost use Rattle.tt_plain.specs.Tables.{tables_of, dml_tables, schema_at, ReadsOneTable, IsOverOneTable};
 ghost use Rattle.tt_typer.specs.TableScopes.{scope_in};
 ghost use Rattle.tt_typer.specs.Finds as spec;
@@ -11,7 +12,7 @@ use crate::counts::{
 };
 use crate::mismatches::{misfit_in_filter, misfit_in_query};
 use crate::nulls::{left_out, nulls_in_selection, nulls_in_sets, nulls_in_tuples};
-use crate::places::earlier;
+use crate::places::{earlier, table_begin};
 use crate::scope::TableScope;
 use crate::unknown::{
     unknown_in_change, unknown_in_create, unknown_in_filter, unknown_in_list, unknown_in_query,
@@ -51,11 +52,11 @@ fn in_query(scope: &TableScope<'_>, query: &Query) -> Found
 
 #[tactic(auto, using(crate::proofs::Leftmost::leftmost_append))]
 fn in_values(target: &Schema, insert: &Insert, tuples: &[Tuple]) -> Found
-    ensures { result ≡ spec.values_found target.now insert.now.columns insert.now.table.name.place tuples.now }
+    ensures { result ≡ spec.values_found target.now insert.now.columns (begin_of insert.now.table) tuples.now }
 {
     let names = &insert.columns;
     let again = listed_again(target, names);
-    let missing = left_out(target, insert.table.name.place, names);
+    let missing = left_out(target, table_begin(&insert.table), names);
     Found {
         unknown: unknown_in_list(target, names),
         count: earlier(again, miscounted_tuples(width(target, names), tuples)),
@@ -66,12 +67,12 @@ fn in_values(target: &Schema, insert: &Insert, tuples: &[Tuple]) -> Found
 
 #[tactic(auto, using(crate::proofs::Leftmost::leftmost_append))]
 fn in_select(target: &Schema, read: &TableScope<'_>, insert: &Insert, query: &Query) -> Found
-    ensures { result ≡ spec.select_found target.now (scope_in read.now) insert.now.columns insert.now.table.name.place query.now }
+    ensures { result ≡ spec.select_found target.now (scope_in read.now) insert.now.columns (begin_of insert.now.table) query.now }
 {
     let names = &insert.columns;
     let again = listed_again(target, names);
     let inside = misfit_in_query(read, query);
-    let missing = left_out(target, insert.table.name.place, names);
+    let missing = left_out(target, table_begin(&insert.table), names);
     Found {
         unknown: earlier(
             unknown_in_list(target, names),

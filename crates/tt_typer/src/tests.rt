@@ -377,18 +377,27 @@ fn startswith_is_on_texts(rt: HostRuntime) -> Result<(), Fail> {
     Ok(())
 }
 
-fn of_values(
+fn of_values_into(
     alloc: Global,
+    table: TableName,
     columns: Option<Items<Name>>,
     values: Items<Literal>,
 ) -> Result<Option<Refusal>, Fail> {
     let schemas = [schema(alloc)?];
     let insert = Insert {
-        table: table(alloc, 12)?,
+        table,
         columns,
         source: InsertSource::Values(one(alloc, Tuple { place: 21, values })?),
     };
     Ok(check(&Statement::Dml(Dml::Insert(insert)), &schemas).err())
+}
+
+fn of_values(
+    alloc: Global,
+    columns: Option<Items<Name>>,
+    values: Items<Literal>,
+) -> Result<Option<Refusal>, Fail> {
+    of_values_into(alloc, table(alloc, 12)?, columns, values)
 }
 
 #[test]
@@ -450,9 +459,11 @@ fn column_lists_name_columns_once(rt: HostRuntime) -> Result<(), Fail> {
     Ok(())
 }
 
-fn of_insert_select(
+fn of_select_into(
     alloc: Global,
     rt: &impl Abort,
+    table: TableName,
+    columns: Option<Items<Name>>,
     items: Items<Item>,
 ) -> Result<Option<Refusal>, Fail> {
     let mut query = select(alloc, Selection::Listed(items))?;
@@ -460,11 +471,19 @@ fn of_insert_select(
     assert!(rt; query.joins.is_empty());
     let schemas = [schema(alloc)?, schema(alloc)?];
     let insert = Insert {
-        table: table(alloc, 12)?,
-        columns: None,
+        table,
+        columns,
         source: InsertSource::Query(query),
     };
     Ok(check(&Statement::Dml(Dml::Insert(insert)), &schemas).err())
+}
+
+fn of_insert_select(
+    alloc: Global,
+    rt: &impl Abort,
+    items: Items<Item>,
+) -> Result<Option<Refusal>, Fail> {
+    of_select_into(alloc, rt, table(alloc, 12)?, None, items)
 }
 
 #[test]
@@ -475,6 +494,34 @@ fn a_query_has_an_item_for_each_column(rt: HostRuntime) -> Result<(), Fail> {
     assert_eq!(rt;
         of_insert_select(alloc, &rt, items)?,
         Some(Refusal::WrongCount(14))
+    );
+    Ok(())
+}
+
+/// A.T, at place 12.
+fn table_in_front(alloc: Global) -> Result<TableName, Fail> {
+    Ok(TableName {
+        schema: Some(name(alloc, "A", 12)?),
+        name: name(alloc, "T", 14)?,
+    })
+}
+
+#[test]
+fn a_table_begins_at_the_name_in_front(rt: HostRuntime) -> Result<(), Fail> {
+    let alloc = rt.alloc();
+    // INSERT INTO A.T (X) VALUES (1), INSERT INTO A.T (X) SELECT X FROM T: S is left out
+    let into = table_in_front(alloc)?;
+    let names = Some(one(alloc, name(alloc, "X", 17)?)?);
+    assert_eq!(rt;
+        of_values_into(alloc, into, names, one(alloc, number(1, 28))?)?,
+        Some(Refusal::NullInNotNull(12))
+    );
+    let into = table_in_front(alloc)?;
+    let names = Some(one(alloc, name(alloc, "X", 17)?)?);
+    let items = one(alloc, item(alloc, "X", 27)?)?;
+    assert_eq!(rt;
+        of_select_into(alloc, &rt, into, names, items)?,
+        Some(Refusal::NullInNotNull(12))
     );
     Ok(())
 }
