@@ -18,7 +18,7 @@ use Rattle.tt_sql.specs.ChangeMeaning.{Staged, Records, BadRecord, NullInRecord,
 use Rattle.tt_plain.specs.Columns.{column_named}
 use Rattle.tt_plain.specs.WrongCounts.{width}
 use Rattle.tt_plain.specs.StrictMeaning.{strict_beside, strict_value_of}
-use Rattle.tt_plain.specs.ValueKinds.{HasKinds, column_kinds, IsRowOf}
+use Rattle.tt_plain.specs.ValueKinds.{IsOf, HasKinds, column_kinds, IsRowOf}
 
 abbrev pub SourceHasKinds : List Schema → List Row → InsertSource → Type 0
 SourceHasKinds sources read (source.Values tuples) = ⊤
@@ -37,9 +37,10 @@ StagedAreRows schema (Records rows) = All (IsRowOf schema) rows
 StagedAreRows schema (BadRecord number column) = ⊤
 StagedAreRows schema (NullInRecord column) = ⊤
 
--- A column takes a value as it is, or reads a text as a date that it is.
-abbrev pub IsReadBy : Column → Value → Type 0
-IsReadBy column v = strict_beside (Some column.kind) v ≡ Some (for_column column v)
+-- A column takes a value as it is, or reads a text as a date that it is; what it stores is of its kind.
+pub record IsReadBy (column : Column) (v : Value) : Type 0 where
+  pub read : strict_beside (Some column.kind) v ≡ Some (for_column column v)
+  pub of_kind : IsOf (Some column.kind) (for_column column v)
 
 -- The values of a row that is put into a table: as many as columns are given, and each column reads its own.
 pub record AreReadBy (schema : Schema) (names : Option (List Name)) (values : List Value) : Type 0 where

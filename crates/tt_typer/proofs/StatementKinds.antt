@@ -51,7 +51,7 @@ use Rattle.tt_typer.proofs.KindLaws.{nil_parts, nil_each, fits_unless, none_ther
 use Rattle.tt_typer.proofs.ListLaws.{all_weaker, all_both, zip_weaker}
 use Rattle.tt_typer.proofs.ExpressionKinds.{expression_fits}
 use Rattle.tt_typer.proofs.PredicateKinds.{predicate_fits}
-use Rattle.tt_typer.proofs.StoredRows.{Enters}
+use Rattle.tt_typer.proofs.StoredRows.{GoesInto, Enters}
 use Rattle.tt_typer.proofs.QueryAnswers.{groups_kept, query_parts, aggregated_kinds, answer_has_kinds, keys_have_places}
 use Rattle.tt_typer.proofs.ChangedRows.{IsStored, inserted_stored, in_scope, set_goes}
 
@@ -147,8 +147,11 @@ module _ (schema : Schema) (sources : List Schema) where
       let counted = nil_parts (if_there (named_again schema) i.columns) (miscounted_source sources (width schema i.columns) i.source) typed.counts in
       All-from_recursion (AreReadBy schema i.columns) given
       (all_weaker (IsStored schema found i.columns) (AreReadBy schema i.columns)
-      (λ values stored. record { count = stored.0; read = zip_weaker Enters IsReadBy (λ column v goes. goes.read) schema.columns (in_order schema i.columns values) stored.1 }) given
+      (λ values stored. record { count = stored.0; read = zip_weaker Enters IsReadBy is_read schema.columns (in_order schema i.columns values) stored.1 }) given
       (inserted_stored schema found i.columns sources read i.source known.1 counted.1 typed.kinds have given is))
+
+is_read : (column : Column) (v : Value) → GoesInto column.kind v → IsReadBy column v
+is_read column v goes = record { read = goes.read; of_kind = goes.of_kind }
 
   listed_named : (o : Option (List Name)) (names : List Name) → if_there (each (unknown_among schema)) o ≡ [] → o ≡ Some names → AllByRecursion (λ name. is_some (column_named schema name) ≡ true) names
   listed_named o names known is =
@@ -181,7 +184,7 @@ module _ (schema : Schema) (sources : List Schema) where
         value = (expression_fits scope row have s.value names.1 parts.1).is;
         column = column.0;
         named = column.1;
-        read = λ v is. (set_goes u.table schema found row have s both column.0 column.1 v is).read;
+        read = λ v is. is_read column.0 v (set_goes u.table schema found row have s both column.0 column.1 v is);
       }
 
   pub sets_keep : IsFoundByName schema → (u : Update) (row : Row) → IsWellTyped (schema ∷ sources) (statement.Dml (dml.Update u)) → HasKinds (column_kinds schema.columns) row → All (SetKeepsToKinds u.table schema row) u.sets
