@@ -4,7 +4,8 @@ use Rattle.std.specs.List.{All, list_all}
 use Rattle.tt_value.specs.declared.value.Kind.{Kind}
 use Rattle.tt_value.specs.declared.value.Kind.TheVariants as kinds
 use Rattle.tt_value.specs.declared.value.Row.{Row}
-use Rattle.tt_value.specs.Scope.{Scope, column_kind, kind_of}
+use Rattle.tt_value.specs.declared.name.ColumnName.{ColumnName}
+use Rattle.tt_value.specs.Scope.{Scope, column_kind, column_value, kind_of}
 use Rattle.tt_value.specs.ExpressionMeaning.{value_of}
 use Rattle.tt_sql.specs.declared.query.Query.{Query}
 use Rattle.tt_sql.specs.declared.query.Selection.{Selection}
@@ -17,7 +18,7 @@ use Rattle.tt_plain.specs.Expressions.{part_of}
 use Rattle.tt_plain.specs.UnknownColumns.{unknown_in_query}
 use Rattle.tt_plain.specs.TypeMismatches.{misfit_in_query}
 use Rattle.tt_plain.specs.ValueKinds.{column_kinds}
-use Rattle.tt_plain.specs.StrictMeaning.{strict_value_of}
+use Rattle.tt_plain.specs.StrictMeaning.{value_there, strict_value_of}
 
 abbrev pub item_kind : Scope → Item → Option Kind
 item_kind scope (item.Expr e) = (part_of scope e).kind
@@ -36,14 +37,19 @@ pub record IsQueryTyped (scope : Scope) (q : Query) : Type 0 where
   pub columns : unknown_in_query scope q ≡ []
   pub kinds : misfit_in_query scope q ≡ []
 
--- An item over rows meets no case that kinds exclude: SUM adds numbers, and MIN and MAX compare values of one kind.
+-- A name has a value in each row, and those that are not NULL are of this kind.
+pub record HasValues (scope : Scope) (rows : List Row) (kind : Option Kind) (c : ColumnName) : Type 0 where
+  pub there : All (λ row. value_there scope row c ≡ Some (column_value scope row c)) rows
+  pub of_kind : All (λ v. kind_of v ≡ kind) (column_values scope c rows)
+
+-- An item over rows meets no case that kinds exclude: each name is a column, SUM adds numbers, and MIN and MAX compare values of one kind.
 abbrev pub KeepsToKinds : Scope → List Row → Item → Type 0
 KeepsToKinds scope rows (item.Expr e) = All (λ row. strict_value_of scope row e ≡ Some (value_of scope row e)) rows
 KeepsToKinds scope rows (item.CountAll place) = ⊤
-KeepsToKinds scope rows (item.Count place c) = All (λ v. kind_of v ≡ column_kind scope c) (column_values scope c rows)
-KeepsToKinds scope rows (item.Sum place c) = All (λ v. kind_of v ≡ Some kinds.Int) (column_values scope c rows)
-KeepsToKinds scope rows (item.Min place c) = All (λ v. kind_of v ≡ column_kind scope c) (column_values scope c rows)
-KeepsToKinds scope rows (item.Max place c) = All (λ v. kind_of v ≡ column_kind scope c) (column_values scope c rows)
+KeepsToKinds scope rows (item.Count place c) = HasValues scope rows (column_kind scope c) c
+KeepsToKinds scope rows (item.Sum place c) = HasValues scope rows (Some kinds.Int) c
+KeepsToKinds scope rows (item.Min place c) = HasValues scope rows (column_kind scope c) c
+KeepsToKinds scope rows (item.Max place c) = HasValues scope rows (column_kind scope c) c
 
 -- A key of the order is one of the values of a row of the answer.
 abbrev pub HasPlace : Scope → Selection → Key → Type 0

@@ -45,7 +45,7 @@ use Rattle.tt_plain.specs.TypeMismatches.{misfit_in_selection, kind_in, expr_fit
 use Rattle.tt_plain.specs.TypingRefusal.{IsWellTyped}
 use Rattle.tt_plain.specs.ValueKinds.{HasKinds, column_kinds, IsFoundByName}
 use Rattle.tt_plain.specs.StrictMeaning.{value_there, strict_value_of, strict_truth_of}
-use Rattle.tt_plain.specs.QueryKinds.{answer_kinds, IsQueryTyped, KeepsToKinds, HasPlace}
+use Rattle.tt_plain.specs.QueryKinds.{answer_kinds, IsQueryTyped, HasValues, KeepsToKinds, HasPlace}
 use Rattle.tt_plain.specs.ChangeKinds.{SourceHasKinds, IsReadBy, AreReadBy, SetKeepsToKinds}
 use Rattle.tt_typer.proofs.KindLaws.{nil_parts, nil_each, fits_unless, none_there, column_has_value}
 use Rattle.tt_typer.proofs.ListLaws.{all_weaker, all_both, zip_weaker}
@@ -79,15 +79,25 @@ module _ (scope : Scope) where
       (all_both (λ v. kind_of v ≡ column_kind scope c) (λ v. not (is_null v) ≡ true) (column_values scope c rows) (aggregated_kinds scope c known rows all)
       (recursion_from_All (λ v. not (is_null v) ≡ true) (column_values scope c rows) (filter_passes (λ v. not (is_null v)) vs)))
 
+  has_values : (rows : List Row) → AllByRecursion Kinds rows → (c : ColumnName) → unknown_name scope c ≡ [] → (kind : Option Kind) → All (λ v. kind_of v ≡ kind) (column_values scope c rows) → HasValues scope rows kind c
+  has_values rows all c known kind kinds = record {
+    there = All-from_recursion (λ row. value_there scope row c ≡ Some (column_value scope row c)) rows
+        (all_weaker Kinds (λ row. value_there scope row c ≡ Some (column_value scope row c)) (λ row have. (column_has_value scope row c have known).is) rows all);
+    of_kind = kinds;
+  }
+
+  column_keeps : (rows : List Row) → AllByRecursion Kinds rows → (c : ColumnName) → unknown_name scope c ≡ [] → HasValues scope rows (column_kind scope c) c
+  column_keeps rows all c known = has_values rows all c known (column_kind scope c) (All-from_recursion (λ v. kind_of v ≡ column_kind scope c) (column_values scope c rows) (aggregated_kinds scope c known rows all))
+
   item_keeps : (rows : List Row) → AllByRecursion Kinds rows → (i : Item) → unknown_in_item scope i ≡ [] → misfit_in_item scope i ≡ [] → KeepsToKinds scope rows i
   item_keeps rows all (item.Expr e) known fit =
       All-from_recursion (λ row. strict_value_of scope row e ≡ Some (value_of scope row e)) rows
       (all_weaker Kinds (λ row. strict_value_of scope row e ≡ Some (value_of scope row e)) (λ row have. (expression_fits scope row have e known fit).is) rows all)
   item_keeps rows all (item.CountAll place) known fit = tt
-  item_keeps rows all (item.Count place c) known fit = All-from_recursion (λ v. kind_of v ≡ column_kind scope c) (column_values scope c rows) (aggregated_kinds scope c known rows all)
-  item_keeps rows all (item.Sum place c) known fit = All-from_recursion (λ v. kind_of v ≡ Some kinds.Int) (column_values scope c rows) (summed_kinds c known (fits_unless (fits (Some kinds.Int) (column_kind scope c)) (column_begin c) fit) rows all)
-  item_keeps rows all (item.Min place c) known fit = All-from_recursion (λ v. kind_of v ≡ column_kind scope c) (column_values scope c rows) (aggregated_kinds scope c known rows all)
-  item_keeps rows all (item.Max place c) known fit = All-from_recursion (λ v. kind_of v ≡ column_kind scope c) (column_values scope c rows) (aggregated_kinds scope c known rows all)
+  item_keeps rows all (item.Count place c) known fit = column_keeps rows all c known
+  item_keeps rows all (item.Sum place c) known fit = has_values rows all c known (Some kinds.Int) (All-from_recursion (λ v. kind_of v ≡ Some kinds.Int) (column_values scope c rows) (summed_kinds c known (fits_unless (fits (Some kinds.Int) (column_kind scope c)) (column_begin c) fit) rows all))
+  item_keeps rows all (item.Min place c) known fit = column_keeps rows all c known
+  item_keeps rows all (item.Max place c) known fit = column_keeps rows all c known
 
   module _ (q : Query) (typed : IsQueryTyped scope q) where
     pub filter_keeps : (row : Row) → Kinds row → (p : Predicate) → q.filter ≡ Some p → strict_truth_of scope row p ≡ Some (truth_of scope row p)
@@ -140,6 +150,9 @@ insert_typed schema sources i q typed is =
 
 -- ---- changes
 
+is_read : (column : Column) (v : Value) → GoesInto column.kind v → IsReadBy column v
+is_read column v goes = record { read = goes.read; of_kind = goes.of_kind }
+
 module _ (schema : Schema) (sources : List Schema) where
   pub inserted_are_read : IsFoundByName schema → (read : List Row) (i : Insert) (given : List (List Value)) → IsWellTyped (schema ∷ sources) (statement.Dml (dml.Insert i)) → SourceHasKinds sources read i.source → inserted_values sources read i.source ≡ Some given → All (AreReadBy schema i.columns) given
   inserted_are_read found read i given typed have is =
@@ -149,9 +162,6 @@ module _ (schema : Schema) (sources : List Schema) where
       (all_weaker (IsStored schema found i.columns) (AreReadBy schema i.columns)
       (λ values stored. record { count = stored.0; read = zip_weaker Enters IsReadBy is_read schema.columns (in_order schema i.columns values) stored.1 }) given
       (inserted_stored schema found i.columns sources read i.source known.1 counted.1 typed.kinds have given is))
-
-is_read : (column : Column) (v : Value) → GoesInto column.kind v → IsReadBy column v
-is_read column v goes = record { read = goes.read; of_kind = goes.of_kind }
 
   listed_named : (o : Option (List Name)) (names : List Name) → if_there (each (unknown_among schema)) o ≡ [] → o ≡ Some names → AllByRecursion (λ name. is_some (column_named schema name) ≡ true) names
   listed_named o names known is =
