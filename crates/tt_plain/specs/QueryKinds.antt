@@ -1,5 +1,5 @@
 -- The kinds of what a query gives, and what stands where nothing in it is refused.
-use Rattle.std.specs.Prelude.{◌≡◌, ⊤, ◌<◌, Bool, true, not, List, [], length, map, Option, Some, MatchOption}
+use Rattle.std.specs.Prelude.{◌≡◌, ⊤, ◌<◌, ◌≤◌, Bool, true, not, List, [], length, map, Option, Some, MatchOption}
 use Rattle.std.specs.List.{All, list_all}
 use Rattle.tt_value.specs.declared.value.Kind.{Kind}
 use Rattle.tt_value.specs.declared.value.Kind.TheVariants as kinds
@@ -13,6 +13,8 @@ use Rattle.tt_sql.specs.declared.query.Selection.TheVariants as selection
 use Rattle.tt_sql.specs.declared.query.Item.{Item}
 use Rattle.tt_sql.specs.declared.query.Item.TheVariants as item
 use Rattle.tt_sql.specs.declared.query.Key.{Key}
+use Rattle.tt_sql.specs.declared.query.KeyColumn.{KeyColumn}
+use Rattle.tt_sql.specs.declared.query.KeyColumn.TheVariants as key
 use Rattle.tt_sql.specs.QueryMeaning.{is_aggregate, column_values, key_place}
 use Rattle.tt_plain.specs.Expressions.{part_of}
 use Rattle.tt_plain.specs.UnknownColumns.{unknown_in_query}
@@ -51,9 +53,15 @@ KeepsToKinds scope rows (item.Sum place c) = HasValues scope rows (Some kinds.In
 KeepsToKinds scope rows (item.Min place c) = HasValues scope rows (column_kind scope c) c
 KeepsToKinds scope rows (item.Max place c) = HasValues scope rows (column_kind scope c) c
 
+-- positions are counted from 1
+abbrev pub IsCounted : KeyColumn → Type 0
+IsCounted (key.Position n) = 1 ≤ n.value
+IsCounted (key.Column c) = ⊤
+
 -- A key of the order is one of the values of a row of the answer.
-abbrev pub HasPlace : Scope → Selection → Key → Type 0
-HasPlace scope s k = MatchOption (key_place scope s k.by) ⊥ (λ place. place < length (answer_kinds scope s))
+pub record HasPlace (scope : Scope) (s : Selection) (k : Key) : Type 0 where
+  pub counted : IsCounted k.by
+  pub place : MatchOption (key_place scope s k.by) ⊥ (λ place. place < length (answer_kinds scope s))
 
 -- a star, or an item that is no aggregate, is read on the first row of a group
 abbrev pub reads_first_row : Selection → Bool

@@ -37,7 +37,7 @@ use Rattle.tt_plain.specs.Expressions.{part_of, lone_literal}
 use Rattle.tt_plain.specs.UnknownColumns.{unknown_name, unknown_in_expr, unknown_in_predicate, unknown_in_item, unknown_in_selection, stands_as_item, item_count, unknown_key, unknown_in_key, unknown_in_query}
 use Rattle.tt_plain.specs.TypeMismatches.{is_grouped, misfit_in_item, misfit_in_selection, misfit_in_predicate, ungrouped_selection, ungrouped_in_query, misfit_in_query, value_fits, item_fits}
 use Rattle.tt_plain.specs.ValueKinds.{IsOf, HasKinds, column_kinds}
-use Rattle.tt_plain.specs.QueryKinds.{item_kind, answer_kinds, IsQueryTyped}
+use Rattle.tt_plain.specs.QueryKinds.{item_kind, answer_kinds, IsQueryTyped, IsCounted, HasPlace}
 use Rattle.tt_typer.proofs.KindLaws.{nil_parts, nil_each, fits_unless, is_of_kind, column_has_value}
 use Rattle.tt_typer.proofs.ListLaws.{if_either, all_map, all_weaker, all_any, all_both, all_filter, all_take, all_from_places, all_at_place, zip_at_place, zip_from_mapped, zip_of_mapped, zip_weaker, item_there, all_there, position_none}
 use Rattle.tt_typer.proofs.ExpressionKinds.{expression_fits}
@@ -309,12 +309,17 @@ module _ (scope : Scope) where
   key_has_place (selection.Listed items) (key.Column c) none =
       position_where_any (is_item_of scope c) items (none_else (list_any (is_item_of scope c) items) (column_begin c) none) (nat_lt (position_or_len (is_item_of scope c) items) (length items)) refl
 
+  key_is_counted : (s : Selection) (k : KeyColumn) → unknown_key scope s k ≡ [] → IsCounted k
+  key_is_counted s (key.Position n) none =
+      leb-true 1 n.value (and_parts (nat_le 1 n.value) (nat_le n.value (item_count scope s)) (none_else (nat_le 1 n.value && nat_le n.value (item_count scope s)) n.place none)).0
+  key_is_counted s (key.Column c) none = tt
+
   pub answer_width : (s : Selection) → length (answer_kinds scope s) ≡ item_count scope s
   answer_width (selection.All place) = length-map scope.columns (λ (column : Column). Some column.kind)
   answer_width (selection.Listed items) = length-map items (item_kind scope)
 
-  pub keys_have_places : (q : Query) → IsQueryTyped scope q → AllByRecursion (λ (k : Key). MatchOption (key_place scope q.selection k.by) ⊥ (λ p. p < length (answer_kinds scope q.selection))) q.order
+  pub keys_have_places : (q : Query) → IsQueryTyped scope q → AllByRecursion (HasPlace scope q.selection) q.order
   keys_have_places q typed =
-      all_weaker (λ (k : Key). unknown_in_key scope q.selection k ≡ []) (λ (k : Key). MatchOption (key_place scope q.selection k.by) ⊥ (λ p. p < length (answer_kinds scope q.selection)))
-      (λ k none. subst (λ n. MatchOption (key_place scope q.selection k.by) ⊥ (λ p. p < n)) (sym (answer_width q.selection)) (key_has_place q.selection k.by none))
+      all_weaker (λ (k : Key). unknown_in_key scope q.selection k ≡ []) (HasPlace scope q.selection)
+      (λ k none. record { counted = key_is_counted q.selection k.by none; place = subst (λ n. MatchOption (key_place scope q.selection k.by) ⊥ (λ p. p < n)) (sym (answer_width q.selection)) (key_has_place q.selection k.by none) })
       q.order (nil_each (unknown_in_key scope q.selection) q.order (query_parts scope q typed).order_known)
