@@ -5,7 +5,7 @@ ghost use Rattle.std.specs.List.{All};
 ghost use Rattle.tt_value.specs.declared.value.Row.{Row as RowValue};
 ghost use Rattle.tt_value.specs.declared.value.Schema.{Schema as SchemaValue};
 ghost use Rattle.tt_value.specs.declared.value.Value.{Value as AnyValue};
-ghost use Rattle.tt_value.specs.declared.value.Value.TheVariants.{Int, Text};
+ghost use Rattle.tt_value.specs.declared.value.Value.TheVariants.{Int, Date, Text};
 ghost use Rattle.tt_value.specs.declared.value.Kind.TheVariants as kinds;
 ghost use Rattle.tt_value.specs.declared.expression.Sign.{Sign as SignValue};
 ghost use Rattle.tt_value.specs.declared.predicate.Comparison.{Comparison as ComparisonValue};
@@ -39,7 +39,7 @@ ghost use Rattle.tt_plain.specs.UnknownColumns.{unknown_in_expr, unknown_in_pred
 ghost use Rattle.tt_plain.specs.TypeMismatches.{misfit_in_predicate};
 ghost use Rattle.tt_plain.specs.TypingRefusal.{typing_refusal, IsWellTyped};
 ghost use Rattle.tt_plain.specs.ValueKinds.{IsOf, HasKinds, column_kinds, IsRowOf, IsFoundByName};
-ghost use Rattle.tt_plain.specs.StrictMeaning.{value_there, strict_sum, strict_value_of, strict_beside, strict_compared, strict_truth_of};
+ghost use Rattle.tt_plain.specs.StrictMeaning.{value_there, negated_number, strict_sum, strict_product, strict_value_of, strict_beside, strict_compared, strict_begins, strict_truth_of};
 ghost use Rattle.tt_plain.specs.QueryKinds.{answer_kinds, IsQueryTyped, KeepsToKinds, HasPlace, reads_first_row};
 ghost use Rattle.tt_plain.specs.ChangeKinds.{SourceHasKinds, ReadHasKinds, StagedAreRows, AreReadBy, SetKeepsToKinds};
 
@@ -72,13 +72,28 @@ pub fn predicates_keep_to_kinds()
         → strict_truth_of scope row p ≡ Some (truth_of scope row p) }
 {}
 
-/// The strict meaning has no sum with a text, no comparison of a number with a text, and nothing for a
-/// text beside a DATE that is none.
+/// The strict meaning has no sum, no product and no minus with a text, no comparison of a number with a
+/// text or a DATE or of a DATE with a text, on either side, no STARTSWITH of a number or a DATE, and
+/// nothing for a text beside a DATE that is none.
 pub fn excluded_cases_have_no_meaning()
     ensures sum { (sign : SignValue) (bytes : List ℕ) (v : Option AnyValue)
-        → strict_sum sign (Some (Some (Text bytes))) (Some v) ≡ None }
+        → (strict_sum sign (Some (Some (Text bytes))) (Some v) ≡ None)
+        × (strict_sum sign (Some v) (Some (Some (Text bytes))) ≡ None) }
+    ensures product { (bytes : List ℕ) (v : Option AnyValue)
+        → (strict_product (Some (Some (Text bytes))) (Some v) ≡ None)
+        × (strict_product (Some v) (Some (Some (Text bytes))) ≡ None) }
+    ensures minus { (bytes : List ℕ) → negated_number (Some (Text bytes)) ≡ None }
     ensures comparison { (c : ComparisonValue) (n : ℤ) (bytes : List ℕ)
-        → strict_compared c (Int n) (Text bytes) ≡ None }
+        → (strict_compared c (Int n) (Text bytes) ≡ None)
+        × (strict_compared c (Text bytes) (Int n) ≡ None) }
+    ensures day_and_number { (c : ComparisonValue) (day n : ℤ)
+        → (strict_compared c (Date day) (Int n) ≡ None)
+        × (strict_compared c (Int n) (Date day) ≡ None) }
+    ensures day_and_text { (c : ComparisonValue) (day : ℤ) (bytes : List ℕ)
+        → (strict_compared c (Date day) (Text bytes) ≡ None)
+        × (strict_compared c (Text bytes) (Date day) ≡ None) }
+    ensures beginning { (front : List ℕ) (n : ℤ)
+        → (strict_begins front (Int n) ≡ None) × (strict_begins front (Date n) ≡ None) }
     ensures date { (bytes : List ℕ)
         → day_of bytes ≡ None → strict_beside (Some kinds.Date) (Text bytes) ≡ None }
 {}
