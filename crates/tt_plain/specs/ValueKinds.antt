@@ -22,7 +22,7 @@ HasKinds kinds row = AllZip IsOf kinds row.values
 abbrev pub column_kinds : List Column → List (Option Kind)
 column_kinds columns = map (λ (column : Column). Some column.kind) columns
 
--- A row that a table may hold: each value of its column's kind, and no NULL where none may stand.
+-- A row by the columns of a table: each value of its column's kind, and no NULL where none may stand. In which years a date lies is not asked.
 pub record IsRowOf (schema : Schema) (row : Row) : Type 0 where
   pub kinds : HasKinds (column_kinds schema.columns) row
   pub filled : AllZip (λ (column : Column) (v : Value). is_missing (Some (column, v)) ≡ false) schema.columns row.values

@@ -1,4 +1,4 @@
--- The rows that an accepted change adds may stand in their table.
+-- The rows that an accepted change adds are of the kinds of their columns, with no NULL where none may stand.
 use Rattle.std.proofs.Common.{◌≡◌, ℕ, zero, suc, ◌<◌, Bool, true, false, cond, ◌==◌, List, [], ◌∷◌, ◌++◌, length, map, drop, Option, Some, None, refl, ap, sym, ◌∙◌, subst, arith}
 use Rattle.std.specs.Prelude.{slice_get, option_and_then, IfSome, if◌then◌else◌, ⊤}
 use Rattle.std.specs.Option.{option_map}

@@ -138,9 +138,10 @@ pub fn queries_keep_to_kinds()
 {}
 
 /// An accepted change of a table whose columns are found by their names, over rows of the kinds of their
-/// columns: what it adds are rows that the table may hold, NOT NULL included. The values that an INSERT
-/// brings are as many as the columns that they are given for, each listed name is a column, and a text is
-/// read as a date only where it is one. The filters and the SETs meet no case that kinds exclude.
+/// columns: what it adds are rows of the kinds of their columns, with no NULL where none may stand. The
+/// values that an INSERT brings are as many as the columns that they are given for, each listed name is a
+/// column, a text is read as a date only where it is one, and what a column stores is of its kind. The
+/// filters and the SETs meet no case that kinds exclude.
 pub fn changes_keep_to_kinds()
     ensures added { (schema : SchemaValue) (sources : List SchemaValue) (rows read : List RowValue)
         (staged : Staged) (d : DmlValue) (removed added : List RowValue) (count : ℕ)
