@@ -613,3 +613,292 @@ fn a_table_of_a_number_and_a_text(rt: HostRuntime) -> Result<(), Fail> {
         ],
     )
 }
+
+#[test]
+fn null_fits_on_each_side_and_as_a_bound(rt: HostRuntime) -> Result<(), Fail> {
+    assert_found(
+        &rt,
+        &[
+            ("SELECT X FROM T WHERE NULL = D", &[Table::T], None),
+            ("SELECT X FROM T WHERE NULL < S", &[Table::T], None),
+            (
+                "SELECT X FROM T WHERE X BETWEEN NULL AND 2",
+                &[Table::T],
+                None,
+            ),
+            (
+                "SELECT X FROM T WHERE D BETWEEN NULL AND NULL",
+                &[Table::T],
+                None,
+            ),
+            (
+                "SELECT X FROM T WHERE X BETWEEN NULL AND 'a'",
+                &[Table::T],
+                Some(Refusal::TypeMismatch(41)),
+            ),
+            ("SELECT NULL + X, Y * NULL FROM T", &[Table::T], None),
+            (
+                "INSERT INTO T SELECT NULL, NULL, V, NULL FROM U",
+                &[Table::T, Table::U],
+                None,
+            ),
+        ],
+    )
+}
+
+#[test]
+fn only_the_literal_alone_is_a_written_null(rt: HostRuntime) -> Result<(), Fail> {
+    assert_found(
+        &rt,
+        &[
+            ("UPDATE T SET S = (NULL)", &[Table::T], None),
+            ("UPDATE R SET X = (NULL)", &[Table::R], None),
+            ("UPDATE R SET X = NULL + 1", &[Table::R], None),
+            ("UPDATE R SET X = -NULL", &[Table::R], None),
+            (
+                "UPDATE T SET S = -NULL",
+                &[Table::T],
+                Some(Refusal::TypeMismatch(17)),
+            ),
+            (
+                "INSERT INTO T SELECT K, E, (NULL), K FROM U",
+                &[Table::T, Table::U],
+                None,
+            ),
+            (
+                "INSERT INTO R SELECT -NULL, V FROM U",
+                &[Table::R, Table::U],
+                None,
+            ),
+        ],
+    )
+}
+
+#[test]
+fn each_comparison_is_taken_by_itself(rt: HostRuntime) -> Result<(), Fail> {
+    assert_found(
+        &rt,
+        &[
+            ("SELECT X FROM T WHERE '2026-02-28' = D", &[Table::T], None),
+            (
+                "SELECT X FROM T WHERE '2026-02-30' = D",
+                &[Table::T],
+                Some(Refusal::TypeMismatch(22)),
+            ),
+            (
+                "SELECT X FROM T WHERE DATE '2026-01-01' IN ('2026-01-02', '2026-01-03')",
+                &[Table::T],
+                None,
+            ),
+            (
+                "SELECT X FROM T WHERE DATE '2026-01-01' IN ('2026-01-02', 'x')",
+                &[Table::T],
+                Some(Refusal::TypeMismatch(58)),
+            ),
+            (
+                "SELECT X FROM T WHERE '2026-01-01' IN (DATE '2026-01-02', 'x')",
+                &[Table::T],
+                None,
+            ),
+            (
+                "SELECT X FROM T WHERE 'x' IN (DATE '2026-01-02', 'y')",
+                &[Table::T],
+                Some(Refusal::TypeMismatch(22)),
+            ),
+            (
+                "SELECT X FROM T WHERE 'x' BETWEEN 'a' AND DATE '2026-01-02'",
+                &[Table::T],
+                Some(Refusal::TypeMismatch(22)),
+            ),
+            (
+                "SELECT X FROM T WHERE 'x' IN ('y', 1)",
+                &[Table::T],
+                Some(Refusal::TypeMismatch(35)),
+            ),
+            (
+                "SELECT X FROM T WHERE X NOT IN (1, 'a')",
+                &[Table::T],
+                Some(Refusal::TypeMismatch(35)),
+            ),
+        ],
+    )
+}
+
+#[test]
+fn a_text_in_brackets_is_no_date(rt: HostRuntime) -> Result<(), Fail> {
+    assert_found(
+        &rt,
+        &[
+            (
+                "UPDATE T SET D = ('2026-01-01')",
+                &[Table::T],
+                Some(Refusal::TypeMismatch(17)),
+            ),
+            ("UPDATE T SET S = ('a')", &[Table::T], None),
+            (
+                "INSERT INTO T SELECT K, ('2026-01-01'), V, K FROM U",
+                &[Table::T, Table::U],
+                Some(Refusal::TypeMismatch(24)),
+            ),
+        ],
+    )
+}
+
+#[test]
+fn a_star_goes_into_columns_in_order(rt: HostRuntime) -> Result<(), Fail> {
+    assert_found(
+        &rt,
+        &[
+            ("INSERT INTO T SELECT * FROM T", &[Table::T, Table::T], None),
+            (
+                "INSERT INTO U (K, V) SELECT * FROM R",
+                &[Table::U, Table::R],
+                None,
+            ),
+            (
+                "INSERT INTO U (V, K) SELECT * FROM R",
+                &[Table::U, Table::R],
+                Some(Refusal::TypeMismatch(28)),
+            ),
+            (
+                "INSERT INTO U SELECT * FROM R",
+                &[Table::U, Table::R],
+                Some(Refusal::WrongCount(14)),
+            ),
+        ],
+    )
+}
+
+#[test]
+fn an_aggregate_goes_into_a_column_of_its_kind(rt: HostRuntime) -> Result<(), Fail> {
+    assert_found(
+        &rt,
+        &[
+            (
+                "INSERT INTO U (K, V) SELECT COUNT(*), MAX(S) FROM T",
+                &[Table::U, Table::T],
+                None,
+            ),
+            (
+                "INSERT INTO U (E) SELECT MIN(D) FROM T",
+                &[Table::U, Table::T],
+                None,
+            ),
+            (
+                "INSERT INTO U (E) SELECT COUNT(*) FROM T",
+                &[Table::U, Table::T],
+                Some(Refusal::TypeMismatch(25)),
+            ),
+            (
+                "INSERT INTO U (K, E) SELECT SUM(X), MIN(S) FROM T",
+                &[Table::U, Table::T],
+                Some(Refusal::TypeMismatch(36)),
+            ),
+        ],
+    )
+}
+
+#[test]
+fn a_sum_is_found_inside_of_brackets(rt: HostRuntime) -> Result<(), Fail> {
+    assert_found(
+        &rt,
+        &[
+            ("SELECT (X + Y) * 2 FROM T", &[Table::T], None),
+            (
+                "SELECT (X + S) FROM T",
+                &[Table::T],
+                Some(Refusal::TypeMismatch(12)),
+            ),
+            (
+                "SELECT (S + X) * 2 FROM T",
+                &[Table::T],
+                Some(Refusal::TypeMismatch(8)),
+            ),
+            (
+                "SELECT X + (Y + S) FROM T",
+                &[Table::T],
+                Some(Refusal::TypeMismatch(16)),
+            ),
+            (
+                "SELECT (S) + X FROM T",
+                &[Table::T],
+                Some(Refusal::TypeMismatch(7)),
+            ),
+            (
+                "UPDATE T SET S = X + S",
+                &[Table::T],
+                Some(Refusal::TypeMismatch(17)),
+            ),
+            (
+                "UPDATE T SET X = X + S",
+                &[Table::T],
+                Some(Refusal::TypeMismatch(21)),
+            ),
+            (
+                "INSERT INTO T (S) SELECT K + V FROM U",
+                &[Table::T, Table::U],
+                Some(Refusal::TypeMismatch(25)),
+            ),
+        ],
+    )
+}
+
+#[test]
+fn a_plain_column_is_a_name_alone(rt: HostRuntime) -> Result<(), Fail> {
+    assert_found(
+        &rt,
+        &[
+            (
+                "SELECT (X) FROM T GROUP BY X",
+                &[Table::T],
+                Some(Refusal::TypeMismatch(7)),
+            ),
+            (
+                "SELECT 1, COUNT(*) FROM T",
+                &[Table::T],
+                Some(Refusal::TypeMismatch(7)),
+            ),
+            (
+                "SELECT COUNT(*), NULL FROM T",
+                &[Table::T],
+                Some(Refusal::TypeMismatch(17)),
+            ),
+            ("SELECT X, COUNT(*) FROM T GROUP BY X, X", &[Table::T], None),
+            (
+                "SELECT (X) FROM T ORDER BY X",
+                &[Table::T],
+                Some(Refusal::UnknownColumn(27)),
+            ),
+            (
+                "SELECT MIN(X) FROM T ORDER BY X",
+                &[Table::T],
+                Some(Refusal::UnknownColumn(30)),
+            ),
+            (
+                "SELECT * FROM T ORDER BY Z",
+                &[Table::T],
+                Some(Refusal::UnknownColumn(25)),
+            ),
+        ],
+    )
+}
+
+#[test]
+fn a_tuple_has_a_value_for_each_column(rt: HostRuntime) -> Result<(), Fail> {
+    assert_found(
+        &rt,
+        &[
+            (
+                "INSERT INTO T VALUES (1,NULL,'a',2,3)",
+                &[Table::T],
+                Some(Refusal::WrongCount(21)),
+            ),
+            ("INSERT INTO T (X,S) VALUES (1,'a')", &[Table::T], None),
+            (
+                "INSERT INTO T (X,S) VALUES (1)",
+                &[Table::T],
+                Some(Refusal::WrongCount(27)),
+            ),
+        ],
+    )
+}
