@@ -31,6 +31,6 @@ pub fn table_begin(table: &TableName) -> u32
 {
     match &table.schema {
         None => table.name.place,
-        Some(front) => front.place,
+        Some(schema) => schema.place,
     }
 }
