@@ -1,6 +1,5 @@
-use Rattle.std.proofs.Common.{◌≡◌, Bool, true, false, ◌&&◌, if◌then◌else◌, Option, Some, None, refl, ap}
+use Rattle.std.proofs.Common.{◌≡◌, Bool, true, false, ◌&&◌, if◌then◌else◌, Some, None, refl, ap}
 use Rattle.std.specs.Option.{option_map}
-use Rattle.tt_value.specs.declared.value.Value.{Value}
 use Rattle.tt_value.specs.declared.value.Value.TheVariants.{Date}
 use Rattle.tt_plain.specs.StrictMeaning.{is_number}
 use Rattle.tt_typer.proofs.laws.excluded_cases_have_no_meaning.Goals as goal
