@@ -1,6 +1,5 @@
 pub mod AcceptedInserts
 pub mod Digits
-pub mod FoundNames
 pub mod Starts
 pub mod Texts
 pub mod TranscriptLaws

@@ -1,10 +1,13 @@
 -- What is known of an INSERT that has begun: it is not refused, was read of a text, and its table's columns are found by their names.
-use Rattle.std.proofs.Common.{◌≡◌, ℕ, ◌+◌, ◌-◌, Bool, true, false, Option, Some, None, Result, Ok, Err, List, refl, sym, ap, subst, ◌∙◌, arith}
+use Rattle.std.proofs.Common.{◌≡◌, ℕ, ◌+◌, ◌-◌, Bool, true, false, Option, Some, None, Result, Ok, Err, List, [], ◌∷◌, refl, sym, ap, subst, ◌∙◌, arith}
 use Rattle.std.specs.Prelude.{◌==◌, ◌↔◌, is_none, if◌then◌else◌}
+use Rattle.std.specs.List.{find}
 use Rattle.std.specs.Option.{option_map}
+use Rattle.std.specs.Str.{bytes_eq}
 use Rattle.std.proofs.lemmas.Bool.{false≢true}
 use Rattle.std.proofs.lemmas.Bool.Decides.{nat_tests}
 use Rattle.std.proofs.lemmas.Option.{none-some, same_Some}
+use Rattle.tt_value.specs.declared.name.TableName.{TableName}
 use Rattle.tt_script.specs.declared.script.Script.{Script}
 use Rattle.tt_script.specs.Program.{span_of, text_at}
 use Rattle.tt_sql.specs.declared.change.Insert.{Insert}
@@ -37,15 +40,17 @@ use Rattle.tt_plain.specs.Replay.{step_of, session_step}
 use Rattle.tt_plain.specs.StartEntry.{start_step, start_told}
 use Rattle.tt_plain.specs.Statements.{is_started, carried_out, statement_at, carried_at}
 use Rattle.tt_plain.specs.StepLaws.{entry_at}
-use Rattle.tt_plain.specs.Store.{next_statement, with_ended, with_opened}
+use Rattle.tt_plain.specs.SoundLaws.{legal_sound}
+use Rattle.tt_plain.specs.SoundStore.{HaveNamedColumns}
+use Rattle.tt_plain.specs.Store.{live_table, next_statement, with_ended, with_opened}
 use Rattle.tt_plain.specs.StoreLaws.{next_is}
 use Rattle.tt_plain.specs.TypingRefusal.{typing_refusal}
+use Rattle.tt_plain.specs.ValueKinds.{IsFoundByName}
 use Rattle.tt_state.specs.declared.ticket.Ticket.{Ticket}
 use Rattle.tt_state.specs.Book.{Book}
 use Rattle.tt_state.specs.Tickets.{SeesTables, written_table}
 use Rattle.tt_run.specs.InsertedRows.{IsAccepted, IsFor}
 use Rattle.tt_run.specs.Turns.{IsReplayed}
-use Rattle.tt_run.proofs.FoundNames.{live_named, legal_names}
 
 -- ---- a start that answers nothing yet was not refused
 
@@ -103,6 +108,20 @@ next_written program store session index s next =
     let span = map_some (λ span. statement_of (text_at program span)) (span_of program session (index - 1)) raw.0 raw.1 in
     (is_text_of (text_at program span.0) s (span.2 ∙ ok_carried raw.0 s raw.2)).written
 
+-- ---- the columns of a table that is found are found by their names
+
+found_if : (test : Bool) (first table : PlainTable) (later : Option PlainTable) → IsFoundByName first.schema → (later ≡ Some table → IsFoundByName table.schema) → (if test then Some first else later) ≡ Some table → IsFoundByName table.schema
+found_if true first table later here there is = subst (λ (t : PlainTable). IsFoundByName t.schema) (same_Some first table is) here
+found_if false first table later here there is = there is
+
+live_in : (tables : List PlainTable) (name : List ℕ) (table : PlainTable) → HaveNamedColumns tables → find (λ (t : PlainTable). bytes_eq t.name name) tables ≡ Some table → IsFoundByName table.schema
+live_in [] name table named found = absurd (none-some table found)
+live_in (first ∷ tables) name table named found = found_if (bytes_eq first.name name) first table _ named.0 (live_in tables name table named.1) found
+
+live_named : (tables : List PlainTable) (name : TableName) (table : PlainTable) → HaveNamedColumns tables → live_at tables name ≡ Some table → IsFoundByName table.schema
+unfolding live_table
+live_named tables name table named found = live_in tables name.name.text table named found
+
 -- ---- an INSERT that has begun
 
 pub is_for : (old : Book) (new : Plain) (session index : ℕ) (whole : Statement) (insert : Insert) (ticket : Ticket) (t : Told) → IsReplayed old → next_statement old.program old.store session index ≡ Some (Ok whole) → whole ≡ statement.Dml (dml.Insert insert) → step_of old.program old.store (entry_at old.store session index (kind.Start t)) ≡ Some (new, None) → SeesTables old.store.tables whole ticket.sources.items ticket.target → IsFor ticket insert
@@ -118,7 +137,7 @@ is_for old new session index whole insert ticket t replayed next is step sees =
       record {
         values = plain;
         written = (next_written old.program old.store session index tree next_insert).2;
-        named = live_named old.store.tables insert.table seen.0 (legal_names old.program old.history (old.store, replayed.0) replayed.1) seen.1;
+        named = live_named old.store.tables insert.table seen.0 (legal_sound old.program old.history (old.store, replayed.0) replayed.1).columns seen.1;
         accepted = sym known ∙ free;
       },
     )
