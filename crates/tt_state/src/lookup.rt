@@ -4,7 +4,6 @@ ghost use Rattle.std.specs.Str.{bytes_eq};
 ghost use Rattle.tt_sql.specs.Built.{built as is_built};
 ghost use Rattle.tt_sql.specs.declared.statement.Statement.{Statement as StatementTree};
 ghost use Rattle.tt_sql.specs.declared.statement.Statement.TheVariants as tree;
-ghost use Rattle.tt_plain.specs.Places.{name_begin, table_begin as begin_of};
 ghost use Rattle.tt_plain.specs.NamedTables.{live_at};
 ghost use Rattle.tt_plain.specs.Refusals.{refusal_over, refusal_number as number_of};
 ghost use Rattle.tt_plain.specs.RefusalLaws.{IsOnTable};
@@ -13,7 +12,7 @@ use std::slice;
 use tt_history::Refusal;
 use tt_plain::PlainTable;
 use tt_sql::{CreatedTable, Dml, Statement};
-use tt_typer::check;
+use tt_typer::{check, table_begin};
 use tt_value::{TableName, Text};
 
 fn is_same_name(a: &Text, b: &Text) -> bool
@@ -30,15 +29,6 @@ pub fn live_table<'a>(tables: &'a [PlainTable], name: &TableName) -> Option<&'a 
     tables
         .iter()
         .find(|table| is_same_name(&table.name, &name.name.text))
-}
-
-fn table_begin(name: &TableName) -> u32
-    ensures { result ≡ begin_of name.now }
-{
-    match &name.schema {
-        Some(front) => front.place,
-        None => name.name.place,
-    }
 }
 
 // Why a statement is refused that reads or changes just the table of this name.
@@ -86,6 +76,7 @@ pub fn refusal(tables: &[PlainTable], statement: &Statement) -> Option<Refusal>
     }
 }
 
+/// The number, from 1, that stands for a refusal in an entry and in the transcript.
 pub fn refusal_number(refusal: Refusal) -> u8
     ensures { result ≡ number_of refusal }
 {

@@ -17,6 +17,7 @@ mod unknown;
 mod values;
 
 pub use checking::check;
+pub use places::table_begin;
 
 #[cfg(test)]
 mod tests;
