@@ -1,5 +1,5 @@
 -- Where there is no refusal there is no place.
-use Rattle.std.proofs.Common.{◌≡◌, ℕ, Bool, true, false, List, [], ◌∷◌, Option, Some, None, is_some, refl, ap, sym, ◌∙◌}
+use Rattle.std.proofs.Common.{◌≡◌, ℕ, List, [], ◌∷◌, Option, Some, None, is_some, refl, ap, sym}
 use Rattle.tt_value.specs.declared.value.Schema.{Schema}
 use Rattle.tt_sql.specs.declared.statement.Statement.{Statement}
 use Rattle.tt_history.specs.declared.reply.Refusal.{Refusal}

@@ -1,6 +1,6 @@
 -- The rows that an accepted change adds are of the kinds of their columns, with no NULL where none may stand.
-use Rattle.std.proofs.Common.{◌≡◌, ℕ, zero, suc, ◌<◌, Bool, true, false, cond, ◌==◌, List, [], ◌∷◌, ◌++◌, length, map, drop, Option, Some, None, refl, ap, sym, ◌∙◌, subst, arith}
-use Rattle.std.specs.Prelude.{slice_get, option_and_then, IfSome, if◌then◌else◌, ⊤}
+use Rattle.std.proofs.Common.{◌≡◌, ℕ, ◌<◌, Bool, true, false, cond, ◌==◌, List, [], ◌∷◌, length, map, Option, Some, None, refl, sym, ◌∙◌, subst, arith}
+use Rattle.std.specs.Prelude.{slice_get, IfSome, if◌then◌else◌}
 use Rattle.std.specs.Option.{option_map}
 use Rattle.std.specs.List.{All, AllZip, AllByRecursion, filter, zip}
 use Rattle.std.specs.Str.{bytes_eq}
@@ -8,7 +8,7 @@ use Rattle.std.proofs.lemmas.Bool.{eqb-true}
 use Rattle.std.proofs.lemmas.Option.{same_Some, slice_get_within}
 use Rattle.std.proofs.lemmas.Slice.Eq.{bytes_eq-Decides}
 use Rattle.std.proofs.lemmas.List.{length-map}
-use Rattle.std.proofs.lemmas.List.Elements.{All-from_recursion, recursion_from_All}
+use Rattle.std.proofs.lemmas.List.Elements.{recursion_from_All}
 use Rattle.tt_value.specs.declared.value.Kind.{Kind}
 use Rattle.tt_value.specs.declared.value.Value.{Value}
 use Rattle.tt_value.specs.declared.value.Column.{Column}
@@ -17,12 +17,10 @@ use Rattle.tt_value.specs.declared.value.Row.{Row}
 use Rattle.tt_value.specs.declared.name.Name.{Name}
 use Rattle.tt_value.specs.declared.name.Literal.{Literal}
 use Rattle.tt_value.specs.declared.name.TableName.{TableName}
-use Rattle.tt_value.specs.Scope.{Scope, beside}
+use Rattle.tt_value.specs.Scope.{Scope}
 use Rattle.tt_value.specs.ExpressionMeaning.{value_of}
 use Rattle.tt_value.specs.PredicateMeaning.{takes}
 use Rattle.tt_sql.specs.declared.query.Query.{Query}
-use Rattle.tt_sql.specs.declared.query.Selection.{Selection}
-use Rattle.tt_sql.specs.declared.query.Selection.TheVariants as selection
 use Rattle.tt_sql.specs.declared.query.Item.{Item}
 use Rattle.tt_sql.specs.declared.change.Dml.{Dml}
 use Rattle.tt_sql.specs.declared.change.Dml.TheVariants as dml
@@ -31,18 +29,16 @@ use Rattle.tt_sql.specs.declared.change.InsertSource.{InsertSource}
 use Rattle.tt_sql.specs.declared.change.InsertSource.TheVariants as source
 use Rattle.tt_sql.specs.declared.change.Tuple.{Tuple}
 use Rattle.tt_sql.specs.declared.change.Update.{Update}
-use Rattle.tt_sql.specs.declared.change.Delete.{Delete}
 use Rattle.tt_sql.specs.declared.change.Set.{Set}
-use Rattle.tt_sql.specs.declared.statement.Statement.{Statement}
 use Rattle.tt_sql.specs.declared.statement.Statement.TheVariants as statement
 use Rattle.tt_sql.specs.Scopes.{query_scope, target_scope}
 use Rattle.tt_sql.specs.QueryMeaning.{all_some, answer_of}
-use Rattle.tt_sql.specs.ChangeMeaning.{Changed, Changes, BadData, OutOfRange, NullInRow, Staged, Records, BadRecord, NullInRecord, first_missing, stores, for_column, in_order, stored_row, tuple_values, inserted_values, adds, insert_change, set_value, updated_row, replaces, update_change, delete_change, copy_change, change_of}
+use Rattle.tt_sql.specs.ChangeMeaning.{Changes, Staged, Records, BadRecord, NullInRecord, for_column, in_order, stored_row, tuple_values, inserted_values, adds, insert_change, set_value, updated_row, replaces, update_change, copy_change, change_of}
 use Rattle.tt_plain.specs.Places.{each, each_at, if_there}
 use Rattle.tt_plain.specs.Kinds.{fits, unless}
 use Rattle.tt_plain.specs.Columns.{column_named}
-use Rattle.tt_plain.specs.Expressions.{part_of, lone_literal}
-use Rattle.tt_plain.specs.UnknownColumns.{item_count, unknown_among, unknown_in_expr, unknown_in_predicate, unknown_in_query, unknown_in_set, unknown_in_source}
+use Rattle.tt_plain.specs.Expressions.{part_of}
+use Rattle.tt_plain.specs.UnknownColumns.{item_count, unknown_among, unknown_in_expr, unknown_in_predicate, unknown_in_set, unknown_in_source}
 use Rattle.tt_plain.specs.WrongCounts.{width, named_again, unless_equal, miscounted_tuple, miscounted_source}
 use Rattle.tt_plain.specs.TypeMismatches.{kind_in, target_kind, expr_fits, item_fits, item_begin, misfit_in_tuple, misfit_item, misfit_column, misfit_into, misfit_in_query, misfit_in_source, misfit_in_set, misfit_in_predicate}
 use Rattle.tt_plain.specs.TypingRefusal.{IsWellTyped}

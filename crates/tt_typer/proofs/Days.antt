@@ -1,5 +1,5 @@
 -- A text is a day or it is none.
-use Rattle.std.proofs.Common.{◌≡◌, ℕ, List, Bool, true, false, is_some, Option, Some, None, Ok, Err, refl, ap, sym, ◌∙◌, subst, ℤ}
+use Rattle.std.proofs.Common.{◌≡◌, ℕ, List, true, false, is_some, Option, Some, None, Ok, Err, refl, ap, sym, ◌∙◌, subst, ℤ}
 use Rattle.std.specs.Prelude.{Result, MatchResult}
 use Rattle.tt_value.specs.Calendar.{IsDay, day_text}
 use Rattle.tt_value.specs.CalendarReading.{day_of}

@@ -1,5 +1,5 @@
 -- Expressions whose names are columns and whose kinds fit have values of their kinds, and calculate with numbers alone.
-use Rattle.std.proofs.Common.{◌≡◌, ℕ, ℤ, Bool, true, false, cond, List, [], ◌∷◌, ◌++◌, map, Option, Some, None, refl, ap, sym, ◌∙◌, subst}
+use Rattle.std.proofs.Common.{◌≡◌, ℕ, ℤ, Bool, true, false, cond, List, [], ◌∷◌, map, Option, Some, None, refl, ap, sym, ◌∙◌, subst}
 use Rattle.std.specs.Prelude.{fold, IfSome, ◌*ℤ◌, ◌+ℤ◌, ◌-ℤ◌, neg_ℤ, option_and_then}
 use Rattle.std.specs.Option.{option_map}
 use Rattle.std.specs.List.{AllByRecursion}
@@ -17,18 +17,18 @@ use Rattle.tt_value.specs.declared.expression.Addend.{Addend}
 use Rattle.tt_value.specs.declared.expression.Term.{Term}
 use Rattle.tt_value.specs.declared.expression.Factor.{Factor}
 use Rattle.tt_value.specs.declared.expression.Factor.TheVariants as factor
-use Rattle.tt_value.specs.Scope.{Scope, kind_of}
-use Rattle.tt_value.specs.ExpressionMeaning.{in_range, on_numbers, negated, then_both, add_signed, factor_value, value_of}
+use Rattle.tt_value.specs.Scope.{Scope}
+use Rattle.tt_value.specs.ExpressionMeaning.{on_numbers, negated, then_both, add_signed, factor_value, value_of}
 use Rattle.tt_plain.specs.Kinds.{fits, unless}
 use Rattle.tt_plain.specs.Places.{each}
 use Rattle.tt_plain.specs.Expressions.{Part, calculated, joined, part_of, part_of_term, part_of_factor}
 use Rattle.tt_plain.specs.UnknownColumns.{unknown_in_expr, unknown_in_term, unknown_in_factor}
 use Rattle.tt_plain.specs.ValueKinds.{IsOf, HasKinds, column_kinds}
 use Rattle.tt_plain.specs.StrictMeaning.{for_both, is_number, with_numbers, negated_number, strict_sum, strict_product, strict_factor, strict_value_of}
-use Rattle.tt_typer.proofs.Folds.{part_of_out, part_of_term_out, part_literal, part_column, part_bracket, part_negated, unknown_in_expr_out, unknown_in_term_out, unknown_literal, unknown_column, unknown_bracket, unknown_negated}
-use Rattle.tt_typer.proofs.ExpressionInduction.{Carries, by_parts}
+use Rattle.tt_typer.proofs.Folds.{part_of_out, part_of_term_out, part_literal, part_column, part_bracket, part_negated, unknown_in_expr_out, unknown_in_term_out, unknown_column, unknown_bracket, unknown_negated}
+use Rattle.tt_typer.proofs.ExpressionInduction.{by_parts}
 use Rattle.tt_typer.proofs.ValueFolds.{of_expr, of_term, of_factor, of_expr_out, of_term_out, of_literal, of_column, of_bracket, of_negated}
-use Rattle.tt_typer.proofs.KindLaws.{nil_parts, nil_each, fits_unless, is_of_kind, number_of_kind, int_of_number, column_has_value}
+use Rattle.tt_typer.proofs.KindLaws.{nil_parts, fits_unless, is_of_kind, number_of_kind, int_of_number, column_has_value}
 
 -- ---- arithmetic gives numbers
 

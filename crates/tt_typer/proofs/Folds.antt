@@ -1,18 +1,18 @@
 -- The folds over expressions and predicates, at one level.
-use Rattle.std.proofs.Common.{◌≡◌, ℕ, Bool, Option, Some, List, [], ◌∷◌, ◌++◌, map, refl, ap, sym, ◌∙◌}
+use Rattle.std.proofs.Common.{◌≡◌, ℕ, Bool, Some, List, [], ◌∷◌, ◌++◌, map, refl, ap, sym, ◌∙◌}
 use Rattle.tt_value.specs.declared.expression.Expr.{Expr, out-Expr}
-use Rattle.tt_value.specs.declared.expression.Term.{Term, out-Term}
+use Rattle.tt_value.specs.declared.expression.Term.{Term}
 use Rattle.tt_value.specs.declared.expression.Addend.{Addend}
-use Rattle.tt_value.specs.declared.expression.Factor.{Factor, out-Factor}
-use Rattle.tt_value.specs.declared.expression.Factor.TheOpen.{Expr-F, Addend-F, Term-F, Factor-F}
-use Rattle.tt_value.specs.declared.expression.Factor.TheFolds.{fold-Expr, fold-Term, fold-Factor, fold-Addend, fold_out-Expr, fold_out-Term, fold_out-Factor, fold_out-Addend, fold-roll-Factor}
+use Rattle.tt_value.specs.declared.expression.Factor.{Factor}
+use Rattle.tt_value.specs.declared.expression.Factor.TheOpen.{Expr-F, Term-F, Factor-F}
+use Rattle.tt_value.specs.declared.expression.Factor.TheFolds.{fold-Term, fold-Addend, fold_out-Expr, fold_out-Term, fold_out-Addend, fold-roll-Factor}
 use Rattle.tt_value.specs.declared.expression.Factor.TheVariants as factor
 use Rattle.tt_value.specs.declared.expression.Factor.TheVariants.{rolls-Literal, rolls-Column, rolls-Bracket, rolls-Negated}
 use Rattle.tt_value.specs.declared.name.Literal.{Literal}
 use Rattle.tt_value.specs.declared.name.ColumnName.{ColumnName}
 use Rattle.tt_value.specs.Scope.{Scope, column_kind, kind_of}
 use Rattle.tt_plain.specs.Places.{each, column_begin}
-use Rattle.tt_plain.specs.Expressions.{Step, fold_expr, fold_term, fold_factor, Part, calculated, joined, factor_part, sum_part, term_part, part_of, part_of_term, part_of_factor}
+use Rattle.tt_plain.specs.Expressions.{Step, Part, calculated, joined, factor_part, sum_part, term_part, part_of, part_of_term, part_of_factor}
 use Rattle.tt_plain.specs.Kinds.{fits, unless}
 use Rattle.tt_plain.specs.TypeMismatches.{misfit_comparison, misfit_beside, unit_misfits, conjunction_misfits, predicate_misfits, misfit_in_predicate, misfit_in_conjunction, misfit_in_unit}
 use Rattle.tt_value.specs.declared.value.Kind.TheVariants as kinds

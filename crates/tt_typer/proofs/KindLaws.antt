@@ -1,6 +1,6 @@
 -- Kinds of values and of rows.
-use Rattle.std.proofs.Common.{◌≡◌, ℕ, zero, suc, Bool, true, false, List, [], ◌∷◌, ◌++◌, length, map, Option, Some, None, refl, ap, sym, ◌∙◌, subst}
-use Rattle.std.specs.Prelude.{⊤, slice_get, option_and_then, IfSome}
+use Rattle.std.proofs.Common.{◌≡◌, ℕ, zero, suc, Bool, true, false, List, [], ◌∷◌, ◌++◌, Option, Some, None, refl, ap, sym, ◌∙◌, subst}
+use Rattle.std.specs.Prelude.{slice_get, option_and_then, IfSome}
 use Rattle.std.specs.Option.{option_map}
 use Rattle.std.specs.List.{AllZip, AllByRecursion}
 use Rattle.tt_value.specs.declared.value.Kind.{Kind}
@@ -11,7 +11,7 @@ use Rattle.tt_value.specs.declared.value.Column.{Column}
 use Rattle.tt_value.specs.declared.value.Row.{Row}
 use Rattle.tt_value.specs.declared.name.ColumnName.{ColumnName}
 use Rattle.tt_value.specs.Scope.{Scope, column_in, column_kind, column_value, value_or_null, kind_of}
-use Rattle.tt_plain.specs.Kinds.{fits, is_same_kind, unless}
+use Rattle.tt_plain.specs.Kinds.{fits, unless}
 use Rattle.tt_plain.specs.Places.{each, where_none, column_begin}
 use Rattle.tt_plain.specs.UnknownColumns.{unknown_name}
 use Rattle.tt_plain.specs.ValueKinds.{IsOf, HasKinds, column_kinds}

@@ -1,5 +1,5 @@
 -- An expression that is one written value has that value.
-use Rattle.std.proofs.Common.{◌≡◌, ℕ, zero, Bool, true, false, cond, ◌&&◌, ◌==◌, List, [], ◌∷◌, length, Option, Some, None, refl, ap, sym, ◌∙◌, subst, arith}
+use Rattle.std.proofs.Common.{◌≡◌, Bool, true, false, cond, ◌&&◌, ◌==◌, List, [], ◌∷◌, length, Option, Some, None, refl, ap, ◌∙◌, arith}
 use Rattle.std.specs.Prelude.{fold, ◌*ℤ◌}
 use Rattle.std.proofs.lemmas.Bool.{and_parts, eqb-true}
 use Rattle.std.proofs.lemmas.Option.{none-some, same_Some}
@@ -16,7 +16,7 @@ use Rattle.tt_value.specs.Scope.{Scope}
 use Rattle.tt_value.specs.ExpressionMeaning.{on_numbers, then_both, add_signed, factor_value, value_of}
 use Rattle.tt_sql.specs.TreesLaws.{by_factor}
 use Rattle.tt_plain.specs.Expressions.{literal_of, lone_literal}
-use Rattle.tt_typer.proofs.ValueFolds.{of_expr, of_term, of_factor, of_expr_out, of_term_out, of_literal}
+use Rattle.tt_typer.proofs.ValueFolds.{of_term, of_factor, of_expr_out, of_term_out, of_literal}
 
 no_items : {A : Type 0} (xs : List A) → (length xs == 0) ≡ true → xs ≡ []
 no_items [] is = refl

@@ -1,7 +1,7 @@
 -- The names of a list that stand again.
-use Rattle.std.proofs.Common.{◌≡◌, ℕ, ◌+◌, ◌<◌, ◌≤◌, Bool, true, false, ◌||◌, is_some, if◌then◌else◌, List, [], ◌∷◌, ◌++◌, length, take, drop, map, get_or, Option, Some, None, refl, ap, sym, ◌∙◌, arith, append-nil}
+use Rattle.std.proofs.Common.{◌≡◌, ℕ, ◌+◌, ◌<◌, ◌≤◌, Bool, true, false, ◌||◌, is_some, if◌then◌else◌, List, [], ◌∷◌, ◌++◌, length, take, drop, map, get_or, Option, None, refl, ap, sym, ◌∙◌, arith, append-nil}
 use Rattle.tt_value.specs.declared.name.Name.{Name}
-use Rattle.tt_plain.specs.Places.{earlier, leftmost, each}
+use Rattle.tt_plain.specs.Places.{earlier, leftmost}
 use Rattle.tt_plain.specs.WrongCounts.{is_name, mention, mentions, later_ones, defined_again, defined_names, miscounted_columns, places_of}
 use Rattle.tt_sql.specs.declared.table.ColumnDefinition.{ColumnDefinition}
 use Rattle.std.proofs.lemmas.List.{take_all, drop_all, take-map, drop-map, length-map}

@@ -1,5 +1,5 @@
 -- The columns that names mean over one table, without the list of tables.
-use Rattle.std.proofs.Common.{◌≡◌, ℕ, ◌+◌, Bool, true, false, if◌then◌else◌, List, [], ◌∷◌, ◌++◌, length, map, Option, Some, None, refl, ap, sym, ◌∙◌, arith, append-nil, zero-add}
+use Rattle.std.proofs.Common.{◌≡◌, ℕ, Bool, true, false, if◌then◌else◌, List, [], ◌∷◌, ◌++◌, length, map, Option, Some, None, refl, ap, sym, ◌∙◌, arith, append-nil, zero-add}
 use Rattle.std.specs.List.{zip}
 use Rattle.tt_sql.specs.declared.query.Query.{Query}
 use Rattle.tt_sql.specs.declared.query.Join.{Join}
@@ -15,11 +15,10 @@ use Rattle.tt_plain.specs.TypeMismatches.{misfit_in_source}
 use Rattle.tt_plain.specs.NullsInNotNull.{left_out, nulls_in_source}
 use Rattle.tt_typer.specs.Finds.{finds, select_found, dml_found}
 use Rattle.tt_typer.specs.declared.found.Found.{Found}
-use Rattle.tt_value.specs.declared.value.Column.{Column}
 use Rattle.tt_value.specs.declared.value.Schema.{Schema}
 use Rattle.tt_value.specs.declared.name.TableName.{TableName}
 use Rattle.tt_value.specs.declared.name.ColumnName.{ColumnName}
-use Rattle.tt_value.specs.Scope.{Scope, column_place}
+use Rattle.tt_value.specs.Scope.{column_place}
 use Rattle.tt_sql.specs.Scopes.{names_table, place_after, only_place, target_scope, scope_of, query_scope, query_tables}
 
 only_after : (p : Option ℕ) → only_place (place_after 0 p ++ []) ≡ p

@@ -1,11 +1,11 @@
 -- What is found of parts with which is calculated.
-use Rattle.std.proofs.Common.{◌≡◌, ◌≢◌, subst, Bool, true, false, ℕ, List, [], ◌∷◌, ◌++◌, map, Option, Some, None, refl, ap, sym, ◌∙◌}
+use Rattle.std.proofs.Common.{◌≡◌, ◌≢◌, subst, Bool, true, false, ℕ, List, [], ◌∷◌, ◌++◌, map, Option, Some, refl, ap, sym, ◌∙◌}
 use Rattle.tt_value.specs.declared.value.Kind.TheVariants as kinds
 use Rattle.tt_value.specs.declared.expression.Expr.{Expr, out-Expr}
 use Rattle.tt_value.specs.declared.expression.Term.{Term}
 use Rattle.tt_value.specs.declared.expression.Addend.{Addend}
 use Rattle.tt_value.specs.Scope.{Scope}
-use Rattle.tt_plain.specs.Places.{earlier, leftmost, each}
+use Rattle.tt_plain.specs.Places.{leftmost, each}
 use Rattle.tt_plain.specs.Kinds.{fits, unless}
 use Rattle.tt_plain.specs.Expressions as spec
 use Rattle.tt_plain.specs.Expressions.{calculated, joined, part_of, part_of_term, part_of_factor}

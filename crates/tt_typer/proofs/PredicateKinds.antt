@@ -1,5 +1,5 @@
 -- Predicates whose names are columns and whose kinds fit compare values of one kind, and ask of texts alone how they begin.
-use Rattle.std.proofs.Common.{◌≡◌, ℕ, ℤ, Bool, true, false, cond, ◌&&◌, List, [], ◌∷◌, ◌++◌, map, Option, Some, None, is_some, refl, ap, sym, ◌∙◌, subst}
+use Rattle.std.proofs.Common.{◌≡◌, ℕ, ℤ, Bool, true, ◌&&◌, List, [], ◌∷◌, map, Option, Some, None, is_some, refl, ap, sym, ◌∙◌}
 use Rattle.std.specs.Prelude.{fold, if◌then◌else◌, option_and_then}
 use Rattle.std.specs.Option.{option_map}
 use Rattle.std.specs.List.{AllByRecursion}
@@ -24,15 +24,15 @@ use Rattle.tt_value.specs.declared.predicate.Unit.TheVariants as unit
 use Rattle.tt_value.specs.CalendarReading.{day_of}
 use Rattle.tt_value.specs.Scope.{Scope, column_value, column_kind, kind_of, beside, date_or_null}
 use Rattle.tt_value.specs.Truths.{truth_of_bool, not_truth, and_truth, or_truth, not_if}
-use Rattle.tt_value.specs.PredicateMeaning.{is_null, compared, begins, operand_kind, operand_value, comparison_truth, in_truth, between_truth, unit_truth, truth_of}
+use Rattle.tt_value.specs.PredicateMeaning.{is_null, compared, begins, operand_kind, operand_value, comparison_truth, unit_truth, truth_of}
 use Rattle.tt_plain.specs.Kinds.{fits, literal_fits, unless, is_date_kind, is_text}
 use Rattle.tt_plain.specs.Places.{each, column_begin}
-use Rattle.tt_plain.specs.UnknownColumns.{unknown_name, unknown_in_operand, unknown_in_unit, unknown_in_conjunction, unknown_in_predicate}
+use Rattle.tt_plain.specs.UnknownColumns.{unknown_in_operand, unknown_in_unit, unknown_in_conjunction, unknown_in_predicate}
 use Rattle.tt_plain.specs.TypeMismatches.{misfit_comparison, misfit_beside, misfit_in_unit, misfit_in_conjunction, misfit_in_predicate}
 use Rattle.tt_plain.specs.ValueKinds.{IsOf, HasKinds, column_kinds}
-use Rattle.tt_plain.specs.StrictMeaning.{for_both, value_there, strict_beside, strict_compared, strict_begins, strict_and, strict_or, strict_operand, strict_comparison, strict_in, strict_between, strict_unit, strict_truth_of}
+use Rattle.tt_plain.specs.StrictMeaning.{for_both, value_there, strict_beside, strict_compared, strict_begins, strict_and, strict_or, strict_operand, strict_comparison, strict_unit, strict_truth_of}
 use Rattle.tt_typer.proofs.Folds.{unknown_in_predicate_out, unknown_in_conjunction_out, unknown_Not, unknown_Bracket, unknown_Compare, unknown_IsNull, unknown_In, unknown_Between, unknown_StartsWith, misfit_in_predicate_out, misfit_in_conjunction_out, misfit_Not, misfit_Bracket, misfit_Compare, misfit_In, misfit_Between, misfit_StartsWith}
-use Rattle.tt_typer.proofs.PredicateInduction.{Carries, by_parts}
+use Rattle.tt_typer.proofs.PredicateInduction.{by_parts}
 use Rattle.tt_typer.proofs.TruthFolds.{of_predicate, of_conjunction, of_unit, of_predicate_out, of_conjunction_out, of_not, of_bracket, of_compare, of_is_null, of_in, of_between, of_starts_with}
 use Rattle.tt_typer.proofs.KindLaws.{nil_parts, fits_unless, fits_none, fits_value, HasValue, column_has_value}
 

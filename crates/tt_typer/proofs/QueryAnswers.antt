@@ -1,11 +1,11 @@
 -- The rows of an answer are of the kinds of the query's items, and each key of its order has a place in them.
-use Rattle.std.proofs.Common.{◌≡◌, ℕ, zero, suc, ◌+◌, ◌-◌, ◌<◌, ◌≤◌, ℤ, Bool, true, false, not, ◌&&◌, ◌||◌, ◌==◌, cond, List, [], ◌∷◌, ◌++◌, length, map, Option, Some, None, is_some, refl, ap, sym, ◌∙◌, subst, arith}
-use Rattle.std.specs.Prelude.{slice_get, option_and_then, IfSome, MatchOption, fold, take, if◌then◌else◌, nat_le, nat_lt, ◌+ℤ◌, ⊤}
+use Rattle.std.proofs.Common.{◌≡◌, ℕ, ◌<◌, ℤ, Bool, true, false, not, ◌&&◌, ◌||◌, ◌==◌, cond, List, [], ◌∷◌, ◌++◌, length, map, Option, Some, None, is_some, refl, ap, sym, ◌∙◌, subst, arith}
+use Rattle.std.specs.Prelude.{slice_get, option_and_then, IfSome, MatchOption, fold, if◌then◌else◌, nat_le, nat_lt, ◌+ℤ◌}
 use Rattle.std.specs.Option.{option_map}
 use Rattle.std.specs.Ordering.{is_gt, is_lt}
 use Rattle.std.specs.declared.cmp.Ordering.{Ordering}
-use Rattle.std.specs.List.{AllZip, AllByRecursion, list_any, filter, position, position_or_len}
-use Rattle.std.proofs.lemmas.Bool.{and_parts, leb-true, ltb-true, true≢false}
+use Rattle.std.specs.List.{AllZip, AllByRecursion, list_any, filter, position_or_len}
+use Rattle.std.proofs.lemmas.Bool.{and_parts, leb-true, ltb-true}
 use Rattle.std.proofs.lemmas.Option.{same_Some, none-some, slice_get_within, get_or_from_slice_get}
 use Rattle.std.proofs.lemmas.List.{length-map}
 use Rattle.tt_value.specs.declared.value.Kind.{Kind}
@@ -20,7 +20,7 @@ use Rattle.tt_value.specs.declared.name.Literal.{Literal}
 use Rattle.tt_value.specs.declared.expression.Expr.{Expr}
 use Rattle.tt_value.specs.Order.{value_cmp, is_same_row}
 use Rattle.tt_value.specs.Scope.{Scope, column_in, column_kind, column_value, kind_of}
-use Rattle.tt_value.specs.ExpressionMeaning.{in_range, value_of}
+use Rattle.tt_value.specs.ExpressionMeaning.{value_of}
 use Rattle.tt_value.specs.PredicateMeaning.{is_null, takes}
 use Rattle.tt_sql.specs.declared.query.Query.{Query}
 use Rattle.tt_sql.specs.declared.query.Selection.{Selection}
@@ -30,16 +30,16 @@ use Rattle.tt_sql.specs.declared.query.Item.TheVariants as item
 use Rattle.tt_sql.specs.declared.query.Key.{Key}
 use Rattle.tt_sql.specs.declared.query.KeyColumn.{KeyColumn}
 use Rattle.tt_sql.specs.declared.query.KeyColumn.TheVariants as key
-use Rattle.tt_sql.specs.QueryMeaning.{all_some, has_aggregate, group_key, each_once, grouped, groups_of, column_values, int_of, sum_of, lesser, greater, best_of, first_value, item_value, selected, is_item_of, key_place, answer_cmp, insert_by, sorted_by, limited, arranged, taken_rows, selected_rows, answer_of}
+use Rattle.tt_sql.specs.QueryMeaning.{all_some, has_aggregate, group_key, each_once, grouped, column_values, int_of, sum_of, lesser, greater, best_of, first_value, item_value, selected, is_item_of, key_place, answer_cmp, insert_by, sorted_by, limited, arranged, taken_rows, selected_rows, answer_of}
 use Rattle.tt_plain.specs.Places.{each, if_there, column_begin}
-use Rattle.tt_plain.specs.Kinds.{fits, unless, literal_fits}
+use Rattle.tt_plain.specs.Kinds.{fits}
 use Rattle.tt_plain.specs.Expressions.{part_of, lone_literal}
-use Rattle.tt_plain.specs.UnknownColumns.{unknown_name, unknown_in_expr, unknown_in_predicate, unknown_in_item, unknown_in_selection, stands_as_item, item_count, unknown_key, unknown_in_key, unknown_in_query}
+use Rattle.tt_plain.specs.UnknownColumns.{unknown_name, unknown_in_expr, unknown_in_predicate, unknown_in_item, unknown_in_selection, item_count, unknown_key, unknown_in_key, unknown_in_query}
 use Rattle.tt_plain.specs.TypeMismatches.{is_grouped, misfit_in_item, misfit_in_selection, misfit_in_predicate, ungrouped_selection, ungrouped_in_query, misfit_in_query, value_fits, item_fits}
 use Rattle.tt_plain.specs.ValueKinds.{IsOf, HasKinds, column_kinds}
 use Rattle.tt_plain.specs.QueryKinds.{item_kind, answer_kinds, IsQueryTyped, IsCounted, HasPlace}
-use Rattle.tt_typer.proofs.KindLaws.{nil_parts, nil_each, fits_unless, is_of_kind, column_has_value}
-use Rattle.tt_typer.proofs.ListLaws.{if_either, all_map, all_weaker, all_any, all_both, all_filter, all_take, all_from_places, all_at_place, zip_at_place, zip_from_mapped, zip_of_mapped, zip_weaker, item_there, all_there, position_none}
+use Rattle.tt_typer.proofs.KindLaws.{nil_parts, nil_each, column_has_value}
+use Rattle.tt_typer.proofs.ListLaws.{if_either, all_map, all_weaker, all_any, all_both, all_filter, all_take, all_from_places, zip_from_mapped, zip_of_mapped, all_there, position_none}
 use Rattle.tt_typer.proofs.ExpressionKinds.{expression_fits}
 use Rattle.tt_typer.proofs.LoneLiterals.{lone_value}
 use Rattle.tt_typer.proofs.StoredRows.{GoesInto, null_goes, literal_goes, value_goes}

@@ -1,7 +1,6 @@
 -- What accepted queries and changes do with kinds.
-use Rattle.std.proofs.Common.{◌≡◌, ℕ, Bool, true, false, not, List, [], ◌∷◌, ◌++◌, Option, Some, None, is_some, map, refl, ap, sym, ◌∙◌, subst}
-use Rattle.std.specs.Prelude.{slice_get}
-use Rattle.std.specs.List.{All, AllZip, AllByRecursion}
+use Rattle.std.proofs.Common.{◌≡◌, ℕ, true, not, List, [], ◌∷◌, Option, Some, is_some, map, refl, ap, ◌∙◌, subst}
+use Rattle.std.specs.List.{All, AllByRecursion}
 use Rattle.std.proofs.lemmas.List.Elements.{All-from_recursion, recursion_from_All, filter_passes}
 use Rattle.std.proofs.lemmas.Bool.{false≢true}
 use Rattle.tt_value.specs.declared.value.Kind.{Kind}
@@ -23,7 +22,6 @@ use Rattle.tt_sql.specs.declared.query.Selection.{Selection}
 use Rattle.tt_sql.specs.declared.query.Selection.TheVariants as selection
 use Rattle.tt_sql.specs.declared.query.Item.{Item}
 use Rattle.tt_sql.specs.declared.query.Item.TheVariants as item
-use Rattle.tt_sql.specs.declared.query.Key.{Key}
 use Rattle.tt_sql.specs.declared.change.Dml.TheVariants as dml
 use Rattle.tt_sql.specs.declared.change.Insert.{Insert}
 use Rattle.tt_sql.specs.declared.change.InsertSource.{InsertSource}
@@ -34,12 +32,12 @@ use Rattle.tt_sql.specs.declared.change.Set.{Set}
 use Rattle.tt_sql.specs.declared.statement.Statement.TheVariants as statement
 use Rattle.tt_sql.specs.Scopes.{query_scope, target_scope}
 use Rattle.tt_sql.specs.QueryMeaning.{answer_of, column_values, groups_of}
-use Rattle.tt_sql.specs.ChangeMeaning.{inserted_values, in_order, for_column}
-use Rattle.tt_plain.specs.Places.{each, if_there, where_none, column_begin}
+use Rattle.tt_sql.specs.ChangeMeaning.{inserted_values, in_order}
+use Rattle.tt_plain.specs.Places.{each, if_there, column_begin}
 use Rattle.tt_plain.specs.Kinds.{fits, unless}
 use Rattle.tt_plain.specs.Columns.{column_named}
 use Rattle.tt_plain.specs.Expressions.{part_of}
-use Rattle.tt_plain.specs.UnknownColumns.{unknown_name, unknown_in_selection, unknown_among, unknown_in_expr, unknown_in_predicate, unknown_in_query, unknown_in_item, unknown_in_set, unknown_in_source}
+use Rattle.tt_plain.specs.UnknownColumns.{unknown_name, unknown_in_selection, unknown_among, unknown_in_expr, unknown_in_predicate, unknown_in_item, unknown_in_set, unknown_in_source}
 use Rattle.tt_plain.specs.WrongCounts.{width, named_again, miscounted_source}
 use Rattle.tt_plain.specs.TypeMismatches.{misfit_in_selection, kind_in, expr_fits, misfit_in_item, misfit_in_predicate, misfit_in_query, misfit_into, misfit_in_set, misfit_in_source}
 use Rattle.tt_plain.specs.TypingRefusal.{IsWellTyped}

@@ -1,10 +1,10 @@
 -- Rows that are stored are of the kinds of their columns, with no NULL where none may stand.
-use Rattle.std.proofs.Common.{◌≡◌, ℕ, zero, suc, ◌<◌, Bool, true, false, cond, List, [], ◌∷◌, ◌++◌, length, map, get_or, Option, Some, None, refl, ap, sym, ◌∙◌, subst, arith}
+use Rattle.std.proofs.Common.{◌≡◌, ℕ, ◌<◌, true, false, List, [], ◌∷◌, length, map, get_or, Option, Some, None, refl, ap, sym, ◌∙◌, subst, arith}
 use Rattle.std.specs.Prelude.{slice_get, option_and_then}
 use Rattle.std.specs.Option.{option_map}
-use Rattle.std.specs.List.{AllZip, AllByRecursion, list_any, position, zip, range_with_len}
+use Rattle.std.specs.List.{AllZip, AllByRecursion, list_any, position, zip}
 use Rattle.std.specs.Str.{bytes_eq}
-use Rattle.std.proofs.lemmas.Option.{same_Some, slice_get-get_or, slice_get-map, slice_get_within, none-some}
+use Rattle.std.proofs.lemmas.Option.{same_Some, slice_get-get_or, slice_get-map, slice_get_within}
 use Rattle.std.proofs.lemmas.Slice.Eq.{bytes_eq-Decides}
 use Rattle.std.proofs.lemmas.List.{length-map}
 use Rattle.std.proofs.lemmas.List.Quantifiers.{position-Some}
@@ -19,16 +19,15 @@ use Rattle.tt_value.specs.declared.name.Name.{Name}
 use Rattle.tt_value.specs.declared.name.Literal.{Literal}
 use Rattle.tt_value.specs.Scope.{column_place, kind_of, beside, value_or_null}
 use Rattle.tt_sql.specs.declared.change.Tuple.{Tuple}
-use Rattle.tt_sql.specs.ChangeMeaning.{Changed, Changes, NullInRow, is_missing, is_missing_at, first_missing, stores, for_column, given_value, in_order, stored_row, tuple_values}
-use Rattle.tt_plain.specs.Places.{each, each_at}
-use Rattle.tt_plain.specs.Kinds.{fits, is_same_kind, literal_fits, unless, misfit_literal}
+use Rattle.tt_sql.specs.ChangeMeaning.{Changes, is_missing, is_missing_at, first_missing, stores, for_column, given_value, in_order, tuple_values}
+use Rattle.tt_plain.specs.Kinds.{fits, is_same_kind, literal_fits}
 use Rattle.tt_plain.specs.Columns.{column_named, target_column}
 use Rattle.tt_plain.specs.WrongCounts.{width}
 use Rattle.tt_plain.specs.TypeMismatches.{kind_in, target_kind, misfit_value, misfit_in_tuple}
 use Rattle.tt_plain.specs.ValueKinds.{IsOf, HasKinds, column_kinds, IsRowOf, IsFoundByName}
 use Rattle.tt_plain.specs.StrictMeaning.{strict_beside}
-use Rattle.tt_typer.proofs.KindLaws.{nil_parts, fits_unless}
-use Rattle.tt_typer.proofs.ListLaws.{all_map, all_from_places, all_at_place, none_any, each_place, zip_from_places, zip_at_place, zip_lengths, zip_mapped, pair_at_place, item_there, none_below}
+use Rattle.tt_typer.proofs.KindLaws.{fits_unless}
+use Rattle.tt_typer.proofs.ListLaws.{all_from_places, none_any, each_place, zip_from_places, zip_lengths, zip_mapped, pair_at_place, item_there, none_below}
 use Rattle.tt_typer.proofs.PredicateKinds.{beside_fits}
 
 -- ---- values that go into a column

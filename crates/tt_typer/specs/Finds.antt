@@ -1,5 +1,5 @@
 -- The leftmost place of each refusal in a statement and in its parts.
-use Rattle.std.specs.Prelude.{ℕ, List, [], ◌++◌, Option, None}
+use Rattle.std.specs.Prelude.{ℕ, List, [], ◌++◌, Option}
 use Rattle.tt_value.specs.declared.value.Schema.{Schema}
 use Rattle.tt_value.specs.declared.name.Name.{Name}
 use Rattle.tt_value.specs.Scope.{Scope}

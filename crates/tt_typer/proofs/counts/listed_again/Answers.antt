@@ -1,4 +1,4 @@
-use Rattle.std.proofs.Common.{◌≡◌, ap}
+use Rattle.std.proofs.Common.{ap}
 use Rattle.std.proofs.lemmas.List.{map-id}
 use Rattle.tt_plain.specs.Places.{leftmost}
 use Rattle.tt_plain.specs.WrongCounts.{named_again}

@@ -1,4 +1,4 @@
-use Rattle.std.proofs.Common.{◌≡◌, ◌∙◌, sym, ap, arith}
+use Rattle.std.proofs.Common.{sym, ap, arith}
 use Rattle.tt_plain.specs.Places.{leftmost}
 use Rattle.tt_typer.proofs.Mentions.{few_columns, many_columns}
 use Rattle.tt_typer.proofs.counts.miscounted_columns.Goals as goal

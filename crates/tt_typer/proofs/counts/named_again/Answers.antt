@@ -1,6 +1,5 @@
-use Rattle.std.proofs.Common.{arith, map, ap, drop}
+use Rattle.std.proofs.Common.{arith, map}
 use Rattle.tt_value.specs.declared.value.Column.{Column}
-use Rattle.tt_plain.specs.Places.{leftmost, each}
 use Rattle.tt_plain.specs.WrongCounts.{mentions, later_ones}
 use Rattle.tt_typer.proofs.Leftmost.{each_more}
 use Rattle.tt_typer.proofs.counts.named_again.Goals as goal

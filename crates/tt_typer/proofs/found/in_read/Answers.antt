@@ -1,4 +1,4 @@
-use Rattle.std.proofs.Common.{◌≡◌, sym, ap}
+use Rattle.std.proofs.Common.{sym, ap}
 use Rattle.tt_typer.specs.TableScopes.{scope_in}
 use Rattle.tt_typer.specs.Finds.{query_found}
 use Rattle.tt_typer.proofs.OneTable.{one_scope}

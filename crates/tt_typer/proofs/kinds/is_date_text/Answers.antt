@@ -1,4 +1,4 @@
-use Rattle.std.proofs.Common.{◌≡◌, ◌∙◌, sym, ap}
+use Rattle.std.proofs.Common.{◌∙◌, sym}
 use Rattle.tt_typer.proofs.Days.{is_day, no_day}
 use Rattle.tt_typer.proofs.kinds.is_date_text.Goals as goal
 

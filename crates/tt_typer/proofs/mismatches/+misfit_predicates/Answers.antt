@@ -1,9 +1,9 @@
-use Rattle.std.proofs.Common.{◌≡◌, ap, sym, ◌∙◌, arith}
+use Rattle.std.proofs.Common.{ap, sym, ◌∙◌, arith}
 use Rattle.tt_value.specs.declared.predicate.Predicate.{out-Predicate}
-use Rattle.tt_plain.specs.Places.{earlier, leftmost, each}
-use Rattle.tt_plain.specs.TypeMismatches.{misfit_beside, misfit_in_predicate, misfit_in_conjunction, misfit_in_unit}
+use Rattle.tt_plain.specs.Places.{leftmost}
+use Rattle.tt_plain.specs.TypeMismatches.{misfit_beside, misfit_in_conjunction, misfit_in_unit}
 use Rattle.tt_typer.specs.TableScopes.{scope_in}
-use Rattle.tt_typer.proofs.Leftmost.{each_start, each_more, each_end, leftmost_append}
+use Rattle.tt_typer.proofs.Leftmost.{each_start, each_more, leftmost_append}
 use Rattle.tt_typer.proofs.Folds.{misfit_in_predicate_out, misfit_in_conjunction_out, misfit_Not, misfit_Bracket, misfit_Compare, misfit_IsNull, misfit_In, misfit_Between, misfit_StartsWith}
 use Rattle.tt_typer.proofs.mismatches.+misfit_predicates.Goals as goal
 

@@ -1,7 +1,7 @@
-use Rattle.std.proofs.Common.{◌≡◌, ap, sym, ◌∙◌, refl, arith, Bool, true, false}
+use Rattle.std.proofs.Common.{ap, sym, ◌∙◌, refl, arith}
 use Rattle.tt_value.specs.declared.expression.Addend.{Addend}
 use Rattle.tt_value.specs.declared.expression.Expr.{out-Expr}
-use Rattle.tt_plain.specs.Places.{earlier, leftmost, each}
+use Rattle.tt_plain.specs.Places.{each}
 use Rattle.tt_plain.specs.Expressions.{calculated, part_of, part_of_term, part_of_factor}
 use Rattle.tt_typer.specs.TableScopes.{scope_in}
 use Rattle.tt_typer.specs.FoundParts.{as_found}

@@ -1,4 +1,4 @@
-use Rattle.std.proofs.Common.{◌≡◌, ◌∙◌, sym, ap, ℕ, List, Option, Some}
+use Rattle.std.proofs.Common.{◌≡◌, ◌∙◌, sym, ap, List}
 use Rattle.std.specs.Prelude.{option_and_then, slice_get}
 use Rattle.tt_value.specs.declared.value.Column.{Column}
 use Rattle.tt_typer.specs.TableScopes.{scope_in}

@@ -1,4 +1,4 @@
-use Rattle.std.proofs.Common.{◌≡◌, ◌∙◌, sym}
+use Rattle.std.proofs.Common.{◌∙◌, sym}
 use Rattle.tt_typer.specs.TableScopes.{scope_in}
 use Rattle.tt_typer.proofs.OneTable.{columns_in_one}
 use Rattle.tt_typer.proofs.scope.columns_in.Goals as goal

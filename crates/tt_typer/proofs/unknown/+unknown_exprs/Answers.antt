@@ -1,10 +1,10 @@
-use Rattle.std.proofs.Common.{◌≡◌, ap, sym, ◌∙◌, arith}
+use Rattle.std.proofs.Common.{ap, sym, ◌∙◌, arith}
 use Rattle.tt_value.specs.declared.expression.Addend.{Addend}
 use Rattle.tt_value.specs.declared.expression.Expr.{out-Expr}
-use Rattle.tt_plain.specs.Places.{earlier, leftmost, each}
-use Rattle.tt_plain.specs.UnknownColumns.{unknown_in_expr, unknown_in_term, unknown_in_factor}
+use Rattle.tt_plain.specs.Places.{leftmost}
+use Rattle.tt_plain.specs.UnknownColumns.{unknown_in_term, unknown_in_factor}
 use Rattle.tt_typer.specs.TableScopes.{scope_in}
-use Rattle.tt_typer.proofs.Leftmost.{each_start, each_more, each_end}
+use Rattle.tt_typer.proofs.Leftmost.{each_start, each_more}
 use Rattle.tt_typer.proofs.Folds.{unknown_in_expr_out, unknown_in_term_out, unknown_literal, unknown_column, unknown_bracket, unknown_negated}
 use Rattle.tt_typer.proofs.unknown.+unknown_exprs.Goals as goal
 

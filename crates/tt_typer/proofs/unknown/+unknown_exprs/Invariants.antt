@@ -2,7 +2,6 @@ use Rattle.std.proofs.Common.{◌≡◌, drop}
 use Rattle.tt_plain.specs.Places.{earlier, leftmost, each}
 use Rattle.tt_plain.specs.UnknownColumns.{unknown_in_expr, unknown_in_term, unknown_in_factor}
 use Rattle.tt_typer.specs.TableScopes.{scope_in}
-use Rattle.tt_typer.proofs.Folds.{unknown_in_expr_out}
 use Rattle.tt_typer.proofs.unknown.+unknown_exprs.Given as goal
 
 abbrev pub invariant-unknown_in_expr-loop-addend : goal.invariant-unknown_in_expr-loop-addend

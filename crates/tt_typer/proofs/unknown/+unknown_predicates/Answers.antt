@@ -1,9 +1,9 @@
-use Rattle.std.proofs.Common.{◌≡◌, ap, sym, ◌∙◌, arith}
+use Rattle.std.proofs.Common.{ap, sym, ◌∙◌, arith}
 use Rattle.tt_value.specs.declared.predicate.Predicate.{out-Predicate}
-use Rattle.tt_plain.specs.Places.{earlier, leftmost, each}
-use Rattle.tt_plain.specs.UnknownColumns.{unknown_in_operand, unknown_in_predicate, unknown_in_conjunction, unknown_in_unit}
+use Rattle.tt_plain.specs.Places.{leftmost}
+use Rattle.tt_plain.specs.UnknownColumns.{unknown_in_operand, unknown_in_conjunction, unknown_in_unit}
 use Rattle.tt_typer.specs.TableScopes.{scope_in}
-use Rattle.tt_typer.proofs.Leftmost.{each_start, each_more, each_end, leftmost_append}
+use Rattle.tt_typer.proofs.Leftmost.{each_start, each_more, leftmost_append}
 use Rattle.tt_typer.proofs.Folds.{unknown_in_predicate_out, unknown_in_conjunction_out, unknown_Not, unknown_Bracket, unknown_Compare, unknown_IsNull, unknown_In, unknown_Between, unknown_StartsWith}
 use Rattle.tt_typer.proofs.unknown.+unknown_predicates.Goals as goal
 
