@@ -3,8 +3,6 @@
 
 pub mod history;
 pub mod reply;
-#[cfg(test)]
-mod tests;
 
 pub use history::{Actor, Added, Entry, EntryKind, History, Miss, Told};
 pub use reply::{Refusal, Reply, SharedBag};

@@ -8,8 +8,6 @@ mod parser;
 mod select;
 mod statement;
 mod table;
-#[cfg(test)]
-mod tests;
 mod wait;
 
 pub use parser::parse;

@@ -9,8 +9,6 @@ use std::process::Abort;
 use std::test::Fail;
 use tt_edge::{MemorySink, MemorySource, Sink, Unwritten};
 
-mod typing;
-
 const FIRST: &[u8] =
     b"%session a\nCREATE TABLE t (x INT);\nINSERT INTO t VALUES (2),(1),(2);\nSELECT * FROM t;\n";
 

@@ -26,6 +26,3 @@ pub use tt_value::{
     Addend, ColumnName, Comparison, Conjunction, Expr, Factor, Literal, Name, Number, Operand,
     Predicate, Quoted, Sign, TableName, Term, Truth, Unit,
 };
-
-#[cfg(test)]
-mod tests;

@@ -18,6 +18,3 @@ mod values;
 
 pub use checking::check;
 pub use places::table_begin;
-
-#[cfg(test)]
-mod tests;

@@ -1,0 +1,69 @@
+//! What each text is read as: a statement, with its one text, or a fault at a place.
+
+mod faults;
+mod going_on;
+mod levels;
+mod statements;
+
+use std::alloc::AllocError;
+use std::process::Abort;
+use std::test::Fail;
+use tt_lex::tokens;
+use tt_parse::{ParseError, parse};
+use tt_sql::print;
+
+/// The one text of the statement that a text is, or the place of its fault.
+fn outcome<R: Abort + AllocGlobal>(rt: &R, text: &str) -> Result<Result<Vec<u8>, u32>, Fail> {
+    assert!(rt; text.len() < 1_000_000);
+    let list = tokens(rt.alloc(), text)?;
+    match parse(rt.alloc(), text, &list) {
+        Ok(statement) => {
+            let mut out = Vec::new(rt.alloc());
+            print(&statement, &mut out)?;
+            Ok(Ok(out))
+        }
+        Err(ParseError::Syntax(fault)) => Ok(Err(fault.place)),
+        Err(ParseError::Memory) => Err(AllocError.into()),
+    }
+}
+
+/// That each text is a statement, and which one.
+pub fn assert_statements<R: Abort + AllocGlobal>(
+    rt: &R,
+    table: &[(&str, &str)],
+) -> Result<(), Fail> {
+    for (text, wanted) in table {
+        match outcome(rt, text)? {
+            Ok(printed) => assert_eq!(rt; printed.as_slice(), wanted.as_bytes(), "in {text}"),
+            Err(place) => panic!(rt; "a fault at {place} in {text}"),
+        }
+    }
+    Ok(())
+}
+
+/// That these bytes are a statement.
+pub fn assert_finished<R: Abort + AllocGlobal>(rt: &R, bytes: &[u8]) -> Result<(), Fail> {
+    let Ok(text) = str::from_utf8(bytes) else {
+        panic!(rt; "no text");
+    };
+    if let Err(place) = outcome(rt, text)? {
+        panic!(rt; "a fault at {place} in {text}");
+    }
+    Ok(())
+}
+
+/// That a text is no statement, and the place of its fault.
+pub fn assert_fault<R: Abort + AllocGlobal>(rt: &R, text: &str, wanted: u32) -> Result<(), Fail> {
+    match outcome(rt, text)? {
+        Ok(_) => panic!(rt; "no fault in {text}"),
+        Err(place) => assert_eq!(rt; place, wanted, "in {text}"),
+    }
+    Ok(())
+}
+
+pub fn assert_faults<R: Abort + AllocGlobal>(rt: &R, table: &[(&str, u32)]) -> Result<(), Fail> {
+    for (text, place) in table {
+        assert_fault(rt, text, *place)?;
+    }
+    Ok(())
+}
