@@ -4,11 +4,16 @@ use anyhow::Result;
 use std::alloc::Global;
 use tt_value::Text;
 
+/// How the values of the rows lie to each other, which decides the shortest encoding.
 #[derive(Clone, Copy, Debug, PartialEq, Eq)]
 pub enum Shape {
+    /// Without a plan.
     FarApart,
+    /// All below 1,000.
     CloseTogether,
+    /// One value for each 64 rows.
     InRuns,
+    /// One of 20 values.
     Few,
 }
 
@@ -29,6 +34,7 @@ fn shaped(shape: Shape, row: usize, drawn: u64) -> u64 {
     }
 }
 
+/// Whole numbers, none below 0. Only want of memory is an error.
 pub fn numbers(alloc: Global, shape: Shape, rows: usize, seed: u64) -> Result<Vec<Option<i64>>> {
     let mut values = Vec::with_capacity(alloc, rows)?;
     let mut state = next(seed);

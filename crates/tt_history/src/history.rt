@@ -35,7 +35,9 @@ pub struct Added {
 pub enum Miss {
     Dropped,
     Suspended,
+    /// The session, from 0.
     Held(u32),
+    /// The number of the partition.
     Gone(u64),
     Memory,
 }
@@ -56,6 +58,7 @@ pub enum EntryKind {
     Wait(Told),
     /// With the numbers that a report gives beside its rows.
     Report(Told, Sequence<u64>),
+    /// The table is given by its number, here and below.
     RecluStart {
         table: u32,
         parts: Sequence<u64>,
@@ -130,6 +133,7 @@ impl History {
         self.entries.push_reserved(entry);
     }
 
+    /// The oldest first. What `project` gives are places in this slice.
     pub fn entries(&self) -> &[Entry]
         ensures { result.now ≡ self.now.list }
     {

@@ -51,6 +51,7 @@ pub struct SharedBag {
 #[derive(Debug, Drop)]
 pub enum Reply {
     Ok,
+    /// How many rows, here and in the two below.
     Inserted(u64),
     Updated(u64),
     Deleted(u64),
@@ -74,6 +75,7 @@ impl Model for SharedBag {
 }
 
 impl SharedBag {
+    /// The bag with its first owner. Where no memory is found the bag is dropped.
     pub fn new(alloc: Global, bag: Bag) -> Result<SharedBag, AllocError>
         requires { All IsPrintable bag }
         ensures { IfOk result (λ shared. shared ≡ bag) }
@@ -92,6 +94,7 @@ impl SharedBag {
         })
     }
 
+    /// The bag that all owners have in common, lent for reading.
     pub fn bag(&self) -> &Bag
         ensures value { result.now ≡ self.now }
         ensures printable { All IsPrintable self.now }

@@ -25,6 +25,7 @@ pub struct IntColumn {
     pub body: Sequence<u8>,
 }
 
+/// Why there is no column. Only want of memory can be the cause.
 #[derive(Debug, Drop)]
 pub enum EncodeError {
     Memory,
@@ -46,6 +47,7 @@ impl<T: Drop> From<AllocFailed<T>> for EncodeError {
     }
 }
 
+/// Why there are no rows: memory ran out, or the bytes are no column of so many rows of the kind.
 #[derive(Debug, Drop)]
 pub enum DecodeError {
     Memory,

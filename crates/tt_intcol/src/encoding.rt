@@ -11,6 +11,7 @@ pub enum Encoding {
 }
 
 impl Encoding {
+    /// The byte that names the form in a column.
     pub fn code(self) -> u8
         ensures { result ≡ code_of self }
     {

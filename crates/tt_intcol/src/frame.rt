@@ -28,6 +28,7 @@ fn has_zero(numbers: &[u64]) -> bool
     numbers.iter().any(|number| *number == 0)
 }
 
+/// The greatest difference of a frame, 0 where there are none.
 pub fn greatest(numbers: &[u64]) -> u64
     ensures { result ≡ greatest_of numbers.now }
 {

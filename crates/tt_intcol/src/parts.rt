@@ -12,6 +12,7 @@ use tt_value::{Kind, Sequence, packing};
 /// The first and the last day of the years 1 to 9999.
 pub const FIRST_DAY: i64 = -719_162;
 
+/// The day 9999-12-31. Both are days since 1970-01-01.
 pub const LAST_DAY: i64 = 2_932_896;
 
 /// The place where what is left begins, if the bytes end at `end`.
@@ -43,6 +44,7 @@ pub fn bad(place: u64) -> DecodeError
     DecodeError::BadColumn(BadColumn { place })
 }
 
+/// A byte, and what stands behind it. Where there is none the fault is at `end`.
 pub fn read_byte(end: u64, bytes: &[u8]) -> Result<(u8, &[u8]), DecodeError>
     ensures { Gives (λ x. (x.0, x.1.now)) result (number_at w8 end bytes.now) }
 {
@@ -52,6 +54,8 @@ pub fn read_byte(end: u64, bytes: &[u8]) -> Result<(u8, &[u8]), DecodeError>
     }
 }
 
+/// Four bytes, the least significant first, and what stands behind them. Where there are fewer the fault is at
+/// `end`.
 pub fn read_u32(end: u64, bytes: &[u8]) -> Result<(u32, &[u8]), DecodeError>
     ensures { Gives (λ x. (x.0, x.1.now)) result (number_at w32 end bytes.now) }
 {
@@ -63,6 +67,7 @@ pub fn read_u32(end: u64, bytes: &[u8]) -> Result<(u32, &[u8]), DecodeError>
     Ok((number, rest))
 }
 
+/// Eight bytes in the same way.
 pub fn read_u64(end: u64, bytes: &[u8]) -> Result<(u64, &[u8]), DecodeError>
     ensures { Gives (λ x. (x.0, x.1.now)) result (number_at w64 end bytes.now) }
 {
@@ -76,6 +81,7 @@ pub fn read_u64(end: u64, bytes: &[u8]) -> Result<(u64, &[u8]), DecodeError>
     Ok((number, rest))
 }
 
+/// Whether a day, counted from 1970-01-01, is one of the years 1 to 9999.
 pub fn is_day(number: i64) -> bool
     ensures { result ≡ day_test number }
 {

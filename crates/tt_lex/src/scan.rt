@@ -15,6 +15,7 @@ const LONGEST_TEXT: usize = 65_535;
 #[derive(Clone, Copy)]
 pub struct Front {
     pub kind: Option<TokenKind>,
+    /// In bytes.
     pub length: usize,
 }
 

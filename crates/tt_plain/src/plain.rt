@@ -4,6 +4,7 @@ use tt_value::{Schema, Sequence, Text};
 /// The rows of a table from a moment on.
 #[derive(Debug, Drop)]
 pub struct Version {
+    /// In milliseconds since 1970-01-01 00:00:00 UTC, as all moments are.
     pub begun: u64,
     pub rows: SharedBag,
 }
@@ -15,6 +16,7 @@ pub struct PlainTable {
     pub number: u32,
     pub name: Text,
     pub schema: Schema,
+    /// The moment at which it was made.
     pub made: u64,
     pub versions: Sequence<Version>,
 }
@@ -23,6 +25,7 @@ pub struct PlainTable {
 /// with the rows that the statement sees of it.
 #[derive(Debug, Drop)]
 pub struct PlainOpen {
+    /// From 1, among the statements of its session.
     pub index: u32,
     pub sources: Sequence<(u32, SharedBag)>,
     pub target: Option<(u32, SharedBag)>,
@@ -40,8 +43,10 @@ pub struct PlainSession {
 /// u64 where it has an entry and is still open.
 #[derive(Debug, Drop)]
 pub struct Plain {
+    /// That of the last entry, or the start of the script where there is none.
     pub moment: u64,
     pub tables: Sequence<PlainTable>,
     pub sessions: Sequence<PlainSession>,
+    /// The moment of the entry that ended the statement.
     pub points: Sequence<Option<u64>>,
 }

@@ -65,12 +65,14 @@ impl Model for ScriptText {
 }
 
 impl ScriptText {
+    /// Takes the text over. No byte is copied.
     pub fn new(text: String) -> ScriptText
         ensures { result ≡ string_bytes text }
     {
         ScriptText { text }
     }
 
+    /// The text in which the spans of statements and files are places.
     pub fn as_str(&self) -> &str
         ensures { result.now ≡ self.now }
     {
@@ -91,6 +93,7 @@ impl Model for Program {
 }
 
 impl Program {
+    /// The program with its first owner. Where no memory is found its parts are dropped.
     pub fn new(alloc: Global, script: Script) -> Result<Program, AllocError>
         requires { IsProgram script }
         ensures { IfOk result (λ program. program ≡ script) }

@@ -5,6 +5,8 @@ use atomic_table::{Join, Play, Split, TableRule};
 use std::marker::PhantomData;
 use std::snapshot::Snapshot;
 
+/// What always holds of the lock. Its word is twice the length of the history, and one more while a seat has the
+/// turn. No value of it is made.
 pub struct Turns<B> {
     book: PhantomData<B>,
 }

@@ -4,6 +4,7 @@ use crate::query::Query;
 use sqlite_items::Items;
 use tt_value::{Expr, Literal, Name, Predicate, Quoted, TableName};
 
+/// A statement that changes the rows of one table.
 #[derive(Drop)]
 pub enum Dml {
     Insert(Insert),
@@ -20,6 +21,7 @@ pub struct Insert {
     pub source: InsertSource,
 }
 
+/// Where new rows come from: written values, or the answer of a query.
 #[derive(Drop)]
 pub enum InsertSource {
     Values(Items<Tuple>),
@@ -33,6 +35,7 @@ pub struct Tuple {
     pub values: Items<Literal>,
 }
 
+/// New values for the rows of which the filter is true, or for all rows where there is no filter.
 #[derive(Drop)]
 pub struct Update {
     pub table: TableName,
@@ -47,6 +50,7 @@ pub struct Set {
     pub value: Expr,
 }
 
+/// Takes away the rows of which the filter is true, or all rows where there is no filter.
 #[derive(Drop)]
 pub struct Delete {
     pub table: TableName,

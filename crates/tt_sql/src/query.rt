@@ -49,6 +49,7 @@ pub struct Join {
     pub pairs: Items<Pair>,
 }
 
+/// Two columns with an equals sign between them, as they stand in ON.
 #[derive(Drop)]
 pub struct Pair {
     pub left: ColumnName,
@@ -83,6 +84,7 @@ pub enum Side {
     Before,
 }
 
+/// A moment as it is written: by itself, by how far it lies from now, or by a statement.
 #[derive(Drop)]
 pub enum Moment {
     /// Milliseconds since 1970-01-01 00:00:00 UTC.

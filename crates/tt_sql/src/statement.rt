@@ -5,6 +5,7 @@ use crate::query::Query;
 use crate::table::{Alter, ClonedTable, CreatedTable};
 use tt_value::{Number, TableName};
 
+/// The tree of a statement. Each place in it is a byte offset in the statement's text.
 #[derive(Drop)]
 pub enum Statement {
     Query(Query),
@@ -35,6 +36,7 @@ pub struct Wait {
     pub unit: TimeUnit,
 }
 
+/// The unit of a wait. Where none is written, seconds are meant.
 #[derive(Clone, Copy, Debug, PartialEq, Eq)]
 pub enum TimeUnit {
     Days,

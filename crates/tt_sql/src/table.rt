@@ -4,6 +4,7 @@ use crate::query::Source;
 use sqlite_items::Items;
 use tt_value::{Kind, Name, Number, TableName};
 
+/// Permanent is meant where no kind is written. The grammar has no temporary tables yet.
 #[derive(Clone, Copy, Debug, PartialEq, Eq)]
 pub enum TableKind {
     Permanent,
@@ -21,6 +22,7 @@ pub struct CreatedTable {
     pub options: TableOptions,
 }
 
+/// A column as CREATE TABLE has it. It may hold NULLs unless NOT NULL is written.
 #[derive(Drop)]
 pub struct ColumnDefinition {
     pub name: Name,
@@ -44,12 +46,14 @@ pub struct ClonedTable {
     pub source: Source,
 }
 
+/// ALTER TABLE: a change that leaves the rows of the table as they are.
 #[derive(Drop)]
 pub struct Alter {
     pub table: TableName,
     pub change: Change,
 }
 
+/// What ALTER TABLE changes: a name, the retention, or the clustering.
 #[derive(Drop)]
 pub enum Change {
     RenameTo(TableName),

@@ -17,6 +17,7 @@ use tt_script::{Program, Script, SessionText};
 #[derive(Drop)]
 pub struct Catalog {
     pub program: Program,
+    /// The most rows of a partition.
     pub cap: u32,
     pub history: History,
     pub state: State,
@@ -107,6 +108,7 @@ impl Catalog {
         })
     }
 
+    /// What was done so far, refused statements included.
     pub fn history(&self) -> &History
         ensures { result.now.list ≡ self.now.history }
     {

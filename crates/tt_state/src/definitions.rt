@@ -17,6 +17,7 @@ use tt_script::Program;
 use tt_sql::{ColumnDefinition, CreatedTable, Statement};
 use tt_value::{Bag, Column, Schema, Sequence};
 
+/// No rows: those of a new table, and those with which an INSERT sees its table.
 pub fn empty_rows(alloc: Global) -> Result<SharedBag, AllocError>
     ensures { IfOk result (λ rows. rows ≡ []) }
 {

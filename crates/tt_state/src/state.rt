@@ -13,6 +13,7 @@ pub struct State {
     pub moment: u64,
     pub tables: Vec<PlainTable>,
     pub sessions: Vec<PlainSession>,
+    /// One for each statement, as a plain store has them.
     pub points: Vec<Option<u64>>,
 }
 

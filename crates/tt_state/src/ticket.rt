@@ -11,8 +11,8 @@ pub struct Seen {
 
 /// An open statement of a session, counted from 1: the tables that it reads, and the one that it
 /// changes, which an INSERT sees without rows. A ticket is spent by `end_read`, `end_change` or `abandon`.
-
 pub struct Ticket {
+    /// The session's place in the script, from 0.
     pub session: u32,
     pub index: u32,
     pub sources: Vec<Seen>,
@@ -27,7 +27,6 @@ pub struct Built {
 }
 
 /// How a statement began.
-
 pub enum Started {
     Ticket(Ticket),
     Refused(Refusal),

@@ -141,6 +141,7 @@ impl LexemeKind {
         self as u8
     }
 
+    /// A word that may be a name: not reserved, and of at most 64 bytes.
     pub fn is_name(self) -> bool
         ensures { result ≡ is_of NAME name_test (kind_number self) }
     {
@@ -148,6 +149,7 @@ impl LexemeKind {
         LexemeKind::Count.number() <= number && number <= LexemeKind::Name.number()
     }
 
+    /// A number of at most 9,223,372,036,854,775,807.
     pub fn is_number(self) -> bool
         ensures { result ≡ is_of SHORT_NUMBER number_test (kind_number self) }
     {
@@ -162,6 +164,7 @@ impl LexemeKind {
         LexemeKind::ShortNumber.number() <= number && number <= LexemeKind::LeastNumber.number()
     }
 
+    /// A text in quotes, whatever stands in it.
     pub fn is_quoted(self) -> bool
         ensures { result ≡ is_of OTHER_TEXT quoted_test (kind_number self) }
     {

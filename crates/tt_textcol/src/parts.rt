@@ -38,6 +38,8 @@ fn read_u16(end: u64, bytes: &[u8]) -> Result<(u16, &[u8]), DecodeError>
     Ok((number, rest))
 }
 
+/// Four bytes, the least significant first, and what stands behind them. Where there are fewer the fault is at
+/// `end`.
 pub fn read_u32(end: u64, bytes: &[u8]) -> Result<(u32, &[u8]), DecodeError>
     ensures { Gives (λ x. (x.0, x.1.now)) result (number_at w32 end bytes.now) }
 {

@@ -32,6 +32,7 @@ impl<'a> Model for TextRef<'a> {
 }
 
 impl<'a> TextRef<'a> {
+    /// Refers to a text that is known to be a value of a VARCHAR column. No byte is copied.
     pub fn new(text: &'a str) -> TextRef<'a>
         requires { IsText text.now }
         ensures { result ≡ text.now }
@@ -39,6 +40,7 @@ impl<'a> TextRef<'a> {
         TextRef { text }
     }
 
+    /// Refers to the text of a value. No byte is copied.
     pub fn of(text: &'a Text) -> TextRef<'a>
         ensures { result ≡ text.now }
     {
@@ -54,6 +56,7 @@ impl<'a> TextRef<'a> {
         TextRef { text: self.text }
     }
 
+    /// They live as long as the text itself, also when this reference to it is gone.
     pub fn bytes(&self) -> &'a [u8]
         ensures value { result.now ≡ self.now }
         ensures short { length self.now ≤ 65535 }

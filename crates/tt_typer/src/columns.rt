@@ -8,6 +8,7 @@ ghost use Rattle.tt_plain.specs.Columns as spec;
 use sqlite_items::Items;
 use tt_value::{Column, Name, Schema};
 
+/// The place among the columns, from 0; none where no column has the name.
 pub fn column_place(schema: &Schema, name: &Name) -> Option<usize>
     ensures { result ≡ place_in schema.now name.now.text }
 {
@@ -18,6 +19,7 @@ pub fn column_place(schema: &Schema, name: &Name) -> Option<usize>
         .position(|column| column.name == name.text)
 }
 
+/// The column of that name, if there is one.
 pub fn column_named<'a>(schema: &'a Schema, name: &Name) -> Option<&'a Column>
     ensures { option_copied result ≡ spec.column_named schema.now name.now }
 {

@@ -99,6 +99,7 @@ fn mentioned_again<N: Named>(text: &Text, names: &[N]) -> Option<u32>
     found
 }
 
+/// The leftmost name that stands for a column for a second time. Names that are no columns may be repeated.
 pub fn named_again<N: Named>(schema: &Schema, names: &[N]) -> Option<u32>
     ensures { result ≡ leftmost (spec.named_again schema.now (map N.name_of names.now)) }
 {
@@ -109,6 +110,7 @@ pub fn named_again<N: Named>(schema: &Schema, names: &[N]) -> Option<u32>
     found
 }
 
+/// The same in the column list of an INSERT; none where there is no list.
 pub fn listed_again(schema: &Schema, names: &Option<Items<Name>>) -> Option<u32>
     ensures { result ≡ leftmost (if_there (spec.named_again schema.now) names.now) }
 {
@@ -128,6 +130,7 @@ pub fn width(schema: &Schema, names: &Option<Items<Name>>) -> usize
     }
 }
 
+/// The opening bracket of the leftmost tuple that has more or fewer values than wanted.
 pub fn miscounted_tuples(wanted: usize, tuples: &[Tuple]) -> Option<u32>
     ensures { result ≡ leftmost (each (spec.miscounted_tuple wanted) tuples.now) }
 {
@@ -144,6 +147,7 @@ fn unless_equal(place: u32, count: usize, wanted: usize) -> Option<u32>
     if count == wanted { None } else { Some(place) }
 }
 
+/// The place of SELECT, if a row of the answer has more or fewer values than wanted.
 pub fn miscounted_query(scope: &TableScope<'_>, wanted: usize, query: &Query) -> Option<u32>
     ensures { result ≡ leftmost (spec.unless_equal query.now.place
         (count_of_items (scope_in scope.now) query.now.selection) wanted) }

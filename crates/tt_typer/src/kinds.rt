@@ -30,6 +30,7 @@ pub fn fits(a: Option<Kind>, b: Option<Kind>) -> bool
     }
 }
 
+/// NULL has none.
 pub fn kind_of(value: &Value) -> Option<Kind>
     ensures { result ≡ scope.kind_of value.now }
 {
@@ -61,18 +62,21 @@ pub fn literal_fits(other: Option<Kind>, value: &Value) -> bool
     }
 }
 
+/// The place, if something is wrong there.
 pub fn unless(is_fine: bool, place: u32) -> Option<u32>
     ensures { result ≡ leftmost (spec.unless is_fine place) }
 {
     if is_fine { None } else { Some(place) }
 }
 
+/// The place of a literal that does not fit what stands on the other side.
 pub fn misfit_literal(other: Option<Kind>, literal: &Literal) -> Option<u32>
     ensures { result ≡ leftmost (spec.misfit_literal other literal.now) }
 {
     unless(literal_fits(other, &literal.value), literal.place)
 }
 
+/// Whether it is DATE. What has no kind is not.
 pub fn is_date(kind: Option<Kind>) -> bool
     ensures { result ≡ spec.is_date_kind kind }
 {

@@ -127,6 +127,7 @@ fn misfit_in_unit(scope: &TableScope<'_>, unit: &Unit) -> Option<u32>
     }
 }
 
+/// The leftmost place in a WHERE where kinds do not fit; none where there is no WHERE.
 pub fn misfit_in_filter(scope: &TableScope<'_>, filter: &Option<Predicate>) -> Option<u32>
     ensures { result
         ≡ leftmost (if_there (spec.misfit_in_predicate (scope_in scope.now)) filter.now) }
@@ -251,6 +252,8 @@ fn ungrouped_in_query(scope: &TableScope<'_>, query: &Query) -> Option<u32>
     }
 }
 
+/// The leftmost place where kinds do not fit in the items or in WHERE, or of an item that is neither an aggregate
+/// nor a group column, in a query that has aggregates or groups.
 #[tactic(auto, using(crate::proofs::Leftmost::leftmost_append), unfolding(tt_plain::specs::TypeMismatches::misfit_in_query))]
 pub fn misfit_in_query(scope: &TableScope<'_>, query: &Query) -> Option<u32>
     ensures { result ≡ leftmost (spec.misfit_in_query (scope_in scope.now) query.now) }

@@ -58,6 +58,7 @@ fn nulls_in_values(schema: &Schema, names: &Option<Items<Name>>, values: &[Liter
     found
 }
 
+/// The leftmost NULL that is written for a column that takes none.
 pub fn nulls_in_tuples(
     schema: &Schema,
     names: &Option<Items<Name>>,
@@ -85,6 +86,7 @@ fn nulls_in_items(schema: &Schema, names: &Option<Items<Name>>, items: &[Item]) 
     found
 }
 
+/// The leftmost item that is a written NULL and goes into a column that takes none. A star has no such item.
 pub fn nulls_in_selection(
     schema: &Schema,
     names: &Option<Items<Name>>,
@@ -146,6 +148,7 @@ fn null_set(schema: &Schema, set: &Set) -> Option<u32>
     }
 }
 
+/// The leftmost NULL to which a column is set that takes none.
 pub fn nulls_in_sets(schema: &Schema, sets: &[Set]) -> Option<u32>
     ensures { result ≡ leftmost (each (spec.null_set schema.now) sets.now) }
 {

@@ -10,10 +10,13 @@ use crate::places::{column_begin, earlier};
 use crate::scope::{TableScope, column_kind};
 use tt_value::{Expr, Factor, Kind, Term};
 
+/// What is known of an expression or of a part of it.
 #[derive(Clone, Copy)]
 pub struct Part {
     pub place: u32,
+    /// None for NULL, and for a name that is no column.
     pub kind: Option<Kind>,
+    /// The leftmost place in it where kinds do not fit.
     pub misfit: Option<u32>,
 }
 
@@ -27,6 +30,7 @@ fn calculated(part: Part) -> Option<u32>
     )
 }
 
+/// A sum, a product and what has a minus in front are INT, and no part of them may have another kind.
 #[cycle(parts)]
 pub fn part_of(scope: &TableScope<'_>, expr: &Expr) -> Part
     ensures { result ≡ as_found (spec.part_of (scope_in scope.now) expr.now) }

@@ -16,6 +16,7 @@ pub fn earlier(a: Option<u32>, b: Option<u32>) -> Option<u32>
     }
 }
 
+/// Where a column's name begins, with its table's name in front or without.
 pub fn column_begin(column: &ColumnName) -> u32
     ensures { result ≡ spec.column_begin column.now }
 {

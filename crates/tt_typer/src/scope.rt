@@ -38,6 +38,7 @@ pub fn place_of(scope: &TableScope<'_>, column: &ColumnName) -> Option<usize>
     }
 }
 
+/// The column that a name means. None where another table's name stands in front, or no column has the name.
 pub fn column_in<'a>(scope: &TableScope<'a>, column: &ColumnName) -> Option<&'a Column>
     ensures { option_copied result ≡ spec.column_in (scope_in scope.now) column.now }
 {
@@ -47,6 +48,7 @@ pub fn column_in<'a>(scope: &TableScope<'a>, column: &ColumnName) -> Option<&'a 
     }
 }
 
+/// The kind of the column that a name means, if it means one.
 pub fn column_kind(scope: &TableScope<'_>, column: &ColumnName) -> Option<Kind>
     ensures { result ≡ spec.column_kind (scope_in scope.now) column.now }
 {

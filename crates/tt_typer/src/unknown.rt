@@ -109,6 +109,7 @@ fn unknown_in_unit(scope: &TableScope<'_>, unit: &Unit) -> Option<u32>
     }
 }
 
+/// The leftmost name in a WHERE that is no column; none where there is no WHERE.
 pub fn unknown_in_filter(scope: &TableScope<'_>, filter: &Option<Predicate>) -> Option<u32>
     ensures { result
         ≡ leftmost (if_there (spec.unknown_in_predicate (scope_in scope.now)) filter.now) }
@@ -178,6 +179,7 @@ fn stands_as_item(scope: &TableScope<'_>, selection: &Selection, column: &Column
     }
 }
 
+/// How many values a row of the answer has. A star stands for all columns.
 pub fn item_count(scope: &TableScope<'_>, selection: &Selection) -> usize
     ensures { result ≡ spec.item_count (scope_in scope.now) selection.now }
 {
@@ -220,6 +222,7 @@ fn unknown_in_keys(scope: &TableScope<'_>, selection: &Selection, keys: &[Key]) 
     found
 }
 
+/// The leftmost name that is no column, or key of ORDER BY that is no item.
 #[tactic(auto, using(crate::proofs::Leftmost::leftmost_append), unfolding(tt_plain::specs::UnknownColumns::unknown_in_query))]
 pub fn unknown_in_query(scope: &TableScope<'_>, query: &Query) -> Option<u32>
     ensures { result ≡ leftmost (spec.unknown_in_query (scope_in scope.now) query.now) }
@@ -240,6 +243,7 @@ fn unknown_among(schema: &Schema, name: &Name) -> Option<u32>
     }
 }
 
+/// The leftmost name in the column list of an INSERT that is no column; none where there is no list.
 pub fn unknown_in_list(schema: &Schema, names: &Option<Items<Name>>) -> Option<u32>
     ensures { result ≡ leftmost (if_there (each (spec.unknown_among schema.now)) names.now) }
 {
@@ -269,6 +273,7 @@ fn unknown_in_set(scope: &TableScope<'_>, set: &Set) -> Option<u32>
     )
 }
 
+/// The leftmost name that is no column: one that is set, or one in a new value.
 pub fn unknown_in_sets(scope: &TableScope<'_>, sets: &[Set]) -> Option<u32>
     ensures { result
         ≡ leftmost (each (spec.unknown_in_set scope.now.table.now scope.now.schema.now) sets.now) }
@@ -302,6 +307,7 @@ fn is_defined(columns: &[ColumnDefinition], name: &Name) -> bool
     columns.iter().any(|column| column.name.text == name.text)
 }
 
+/// The name in CLUSTER BY, if it is no column. No other change names one.
 pub fn unknown_in_change(schema: &Schema, change: &Change) -> Option<u32>
     ensures { result ≡ leftmost (spec.unknown_in_change schema.now change.now) }
 {

@@ -45,6 +45,7 @@ fn misfit_in_values(schema: &Schema, names: &Option<Items<Name>>, values: &[Lite
     found
 }
 
+/// The leftmost value that does not fit the kind of the column into which it goes.
 pub fn misfit_in_tuples(
     schema: &Schema,
     names: &Option<Items<Name>>,
@@ -160,6 +161,7 @@ fn misfit_in_set(scope: &TableScope<'_>, set: &Set) -> Option<u32>
     )
 }
 
+/// The leftmost place where a new value does not fit its column, or where kinds do not fit within it.
 pub fn misfit_in_sets(scope: &TableScope<'_>, sets: &[Set]) -> Option<u32>
     ensures { result
         ≡ leftmost (each (spec.misfit_in_set scope.now.table.now scope.now.schema.now) sets.now) }

@@ -19,6 +19,7 @@ pub struct Addend {
     pub term: Term,
 }
 
+/// Whether a further term is added or taken away.
 #[derive(Clone, Copy, Debug, PartialEq, Eq)]
 pub enum Sign {
     Plus,

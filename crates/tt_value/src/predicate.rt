@@ -19,6 +19,7 @@ pub struct Conjunction {
     pub others: Items<Unit>,
 }
 
+/// A part of a conjunction: one condition, NOT in front of a part, or a predicate in brackets.
 #[cycle(predicates)]
 #[derive(Drop)]
 pub enum Unit {
@@ -33,12 +34,14 @@ pub enum Unit {
     StartsWith(ColumnName, Quoted),
 }
 
+/// What a condition looks at: a row's value in a column, or a written value.
 #[derive(Drop)]
 pub enum Operand {
     Column(ColumnName),
     Literal(Literal),
 }
 
+/// A sign between two operands. `<>` and `!=` are one.
 #[derive(Clone, Copy, Debug, PartialEq, Eq)]
 pub enum Comparison {
     Equal,

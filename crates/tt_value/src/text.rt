@@ -108,6 +108,7 @@ impl Text {
         self.text.as_bytes() == bytes
     }
 
+    /// Lends the text. No byte is copied.
     pub fn as_str(&self) -> &str
         ensures value { result.now ≡ self.now }
         ensures valid { IsText self.now }

@@ -18,6 +18,7 @@ pub enum Value {
     Text(Text),
 }
 
+/// A column of a table. Its name is in upper case.
 #[derive(Clone, Debug, Drop)]
 pub struct Column {
     pub name: Text,
@@ -25,6 +26,7 @@ pub struct Column {
     pub nullable: bool,
 }
 
+/// The columns of a table, in the order in which they were defined.
 #[derive(Clone, Debug, Drop)]
 pub struct Schema {
     pub columns: Sequence<Column>,

@@ -16,6 +16,7 @@ use sqlite_items::Items;
 use std::alloc::AllocError;
 use tt_value::Name;
 
+/// Writes INSERT, UPDATE, DELETE or COPY, from its first word to its last.
 pub fn write_dml(dml: &Dml, out: &mut Vec<u8>) -> Result<(), AllocError>
     ensures ok { OnOk result (out.new.items ≡ out.old.items ++ spaced (dml_words dml.now)) }
 {

@@ -9,6 +9,7 @@ use crate::printing::words::{write_column_name, write_if, write_literal, write_w
 use std::alloc::AllocError;
 use tt_value::{Addend, Expr, Factor, Sign, Term, Value};
 
+/// Writes the terms with their signs between them. Brackets stand just where the tree has them.
 #[cycle(expressions)]
 pub fn write_expr(expr: &Expr, out: &mut Vec<u8>) -> Result<(), AllocError>
     ensures ok { OnOk result (out.new.items ≡ out.old.items ++ spaced (expr_words expr.now)) }

@@ -11,6 +11,7 @@ use crate::{Clause, Moment, Offset, Side};
 use std::alloc::AllocError;
 use tt_value::{Number, Quoted, write_date};
 
+/// Writes AT or BEFORE, and the moment in brackets.
 pub fn write_clause(clause: &Clause, out: &mut Vec<u8>) -> Result<(), AllocError>
     ensures ok { OnOk result (out.new.items ≡ out.old.items ++ spaced (clause_words clause.now)) }
 {

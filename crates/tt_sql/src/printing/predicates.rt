@@ -29,6 +29,7 @@ fn write_where(predicate: &Predicate, out: &mut Vec<u8>) -> Result<(), AllocErro
     Ok(())
 }
 
+/// Writes the conjunctions with OR between them. Brackets stand just where the tree has them.
 #[cycle(predicates)]
 pub fn write_predicate(predicate: &Predicate, out: &mut Vec<u8>) -> Result<(), AllocError>
     ensures ok { OnOk result (out.new.items ≡ out.old.items ++ spaced (predicate_words predicate.now)) }

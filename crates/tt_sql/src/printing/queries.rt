@@ -16,6 +16,7 @@ use crate::{Clause, Item, Join, Key, KeyColumn, Pair, Query, Selection, Source};
 use std::alloc::AllocError;
 use tt_value::{ColumnName, Number};
 
+/// Writes the query from SELECT on. A part that it does not have leaves no word.
 pub fn write_query(query: &Query, out: &mut Vec<u8>) -> Result<(), AllocError>
     ensures ok { OnOk result (out.new.items ≡ out.old.items ++ spaced (query_words query.now)) }
 {
@@ -106,6 +107,7 @@ fn write_aggregate(word: &[u8], column: &ColumnName, out: &mut Vec<u8>) -> Resul
     Ok(())
 }
 
+/// Writes the table's name, and AT or BEFORE behind it if it is read at a moment.
 pub fn write_source(source: &Source, out: &mut Vec<u8>) -> Result<(), AllocError>
     ensures ok { OnOk result (out.new.items ≡ out.old.items ++ spaced (source_words source.now)) }
 {

@@ -11,6 +11,7 @@ use crate::{Alter, Change, ClonedTable, ColumnDefinition, CreatedTable, TableKin
 use std::alloc::AllocError;
 use tt_value::{Kind, Name, Number, TableName};
 
+/// Writes CREATE TABLE with its columns. CLUSTER BY stands in front of the retention.
 pub fn write_created(created: &CreatedTable, out: &mut Vec<u8>) -> Result<(), AllocError>
     ensures ok { OnOk result (out.new.items ≡ out.old.items ++ spaced (created_words created.now)) }
 {
@@ -23,6 +24,7 @@ pub fn write_created(created: &CreatedTable, out: &mut Vec<u8>) -> Result<(), Al
     Ok(())
 }
 
+/// Writes CREATE TABLE with CLONE, and the moment of the source if it has one.
 pub fn write_cloned(cloned: &ClonedTable, out: &mut Vec<u8>) -> Result<(), AllocError>
     ensures ok { OnOk result (out.new.items ≡ out.old.items ++ spaced (cloned_words cloned.now)) }
 {
@@ -136,6 +138,7 @@ fn write_retention(days: &Number, out: &mut Vec<u8>) -> Result<(), AllocError>
     Ok(())
 }
 
+/// Writes ALTER TABLE, the table's name and the change.
 pub fn write_alter(alter: &Alter, out: &mut Vec<u8>) -> Result<(), AllocError>
     ensures ok { OnOk result (out.new.items ≡ out.old.items ++ spaced (alter_words alter.now)) }
 {

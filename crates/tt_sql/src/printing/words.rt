@@ -11,6 +11,7 @@ use itoa::Buffer;
 use std::alloc::AllocError;
 use tt_value::{ColumnName, Literal, Name, Number, Quoted, TableName, Value, write_date};
 
+/// Writes a blank and then the word, which may be a sign.
 pub fn write_word(word: &[u8], out: &mut Vec<u8>) -> Result<(), AllocError>
     ensures ok { OnOk result (out.new.items ≡ out.old.items ++ spaced (word.now ∷ [])) }
 {
@@ -29,12 +30,14 @@ pub fn write_if(wanted: bool, word: &[u8], out: &mut Vec<u8>) -> Result<(), Allo
     Ok(())
 }
 
+/// Writes the name as it is kept, in upper case and without quotes.
 pub fn write_name(name: &Name, out: &mut Vec<u8>) -> Result<(), AllocError>
     ensures ok { OnOk result (out.new.items ≡ out.old.items ++ spaced (name_words name.now)) }
 {
     write_word(name.text.as_str().as_bytes(), out)
 }
 
+/// Writes the column's name, with its table's name and a point in front if it has one.
 pub fn write_column_name(column: &ColumnName, out: &mut Vec<u8>) -> Result<(), AllocError>
     ensures ok { OnOk result (out.new.items ≡ out.old.items ++ spaced (column_name_words column.now)) }
 {
@@ -54,6 +57,7 @@ fn write_front(front: &Option<Name>, out: &mut Vec<u8>) -> Result<(), AllocError
     Ok(())
 }
 
+/// Writes the table's name, with its schema's name and a point in front if it has one.
 pub fn write_table_name(table: &TableName, out: &mut Vec<u8>) -> Result<(), AllocError>
     ensures ok { OnOk result (out.new.items ≡ out.old.items ++ spaced (table_name_words table.now)) }
 {
@@ -62,6 +66,7 @@ pub fn write_table_name(table: &TableName, out: &mut Vec<u8>) -> Result<(), Allo
     Ok(())
 }
 
+/// Writes the names with commas between them.
 pub fn write_names(names: &[Name], out: &mut Vec<u8>) -> Result<(), AllocError>
     ensures ok { OnOk result (out.new.items ≡ out.old.items ++ spaced (listed (map name_words names.now))) }
 {
@@ -76,18 +81,21 @@ pub fn write_names(names: &[Name], out: &mut Vec<u8>) -> Result<(), AllocError>
     Ok(())
 }
 
+/// Writes the number in decimal, without zeros in front.
 pub fn write_number(number: &Number, out: &mut Vec<u8>) -> Result<(), AllocError>
     ensures ok { OnOk result (out.new.items ≡ out.old.items ++ spaced (number_words number.now)) }
 {
     write_decimal(number.value, out)
 }
 
+/// Writes the text in quotes. Each quote in it is doubled.
 pub fn write_quoted(text: &Quoted, out: &mut Vec<u8>) -> Result<(), AllocError>
     ensures ok { OnOk result (out.new.items ≡ out.old.items ++ spaced (quoted_words text.now)) }
 {
     write_quoted_bytes(text.text.as_str().as_bytes(), out)
 }
 
+/// Writes NULL, a number, DATE with a day in quotes, or a text in quotes. A minus is a word of its own.
 pub fn write_literal(literal: &Literal, out: &mut Vec<u8>) -> Result<(), AllocError>
     ensures ok { OnOk result (out.new.items ≡ out.old.items ++ spaced (literal_words literal.now)) }
 {
@@ -99,6 +107,7 @@ pub fn write_literal(literal: &Literal, out: &mut Vec<u8>) -> Result<(), AllocEr
     }
 }
 
+/// Writes the literals with commas between them.
 pub fn write_literals(literals: &[Literal], out: &mut Vec<u8>) -> Result<(), AllocError>
     ensures ok { OnOk result (out.new.items
         ≡ out.old.items ++ spaced (listed (map literal_words literals.now))) }
