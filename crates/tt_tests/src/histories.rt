@@ -19,8 +19,8 @@ fn a_session_has_the_places_of_its_entries(rt: HostRuntime) -> Result<(), Fail> 
     history.push(start(1, Actor::Session(1)));
     history.push(start(2, Actor::Session(0)));
     history.push(start(3, Actor::Session(1)));
-    assert_eq!(rt; history.project(alloc, 1)?.as_slice(), &[0, 2]);
-    assert_eq!(rt; history.project(alloc, 0)?.as_slice(), &[1]);
+    assert_eq!(rt; history.project(alloc, 1)?.as_slice(), [0, 2].as_slice());
+    assert_eq!(rt; history.project(alloc, 0)?.as_slice(), [1].as_slice());
     assert!(rt; history.project(alloc, 2)?.is_empty());
     Ok(())
 }
