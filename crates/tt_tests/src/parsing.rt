@@ -1,5 +1,6 @@
 //! What each text is read as: a statement, with its one text, or a fault at a place.
 
+mod carried;
 mod faults;
 mod going_on;
 mod levels;
@@ -10,20 +11,28 @@ use std::process::Abort;
 use std::test::Fail;
 use tt_lex::tokens;
 use tt_parse::{ParseError, parse};
-use tt_sql::print;
+use tt_sql::{Statement, built, print};
 
-/// The one text of the statement that a text is, or the place of its fault.
-fn outcome<R: Abort + AllocGlobal>(rt: &R, text: &str) -> Result<Result<Vec<u8>, u32>, Fail> {
+/// The statement that a text is, or the place of its fault.
+fn read<R: Abort + AllocGlobal>(rt: &R, text: &str) -> Result<Result<Statement, u32>, Fail> {
     assert!(rt; text.len() < 1_000_000);
     let list = tokens(rt.alloc(), text)?;
     match parse(rt.alloc(), text, &list) {
+        Ok(statement) => Ok(Ok(statement)),
+        Err(ParseError::Syntax(fault)) => Ok(Err(fault.place)),
+        Err(ParseError::Memory) => Err(AllocError.into()),
+    }
+}
+
+/// The one text of the statement that a text is, or the place of its fault.
+fn outcome<R: Abort + AllocGlobal>(rt: &R, text: &str) -> Result<Result<Vec<u8>, u32>, Fail> {
+    match read(rt, text)? {
         Ok(statement) => {
             let mut out = Vec::new(rt.alloc());
             print(&statement, &mut out)?;
             Ok(Ok(out))
         }
-        Err(ParseError::Syntax(fault)) => Ok(Err(fault.place)),
-        Err(ParseError::Memory) => Err(AllocError.into()),
+        Err(place) => Ok(Err(place)),
     }
 }
 
@@ -64,6 +73,20 @@ pub fn assert_fault<R: Abort + AllocGlobal>(rt: &R, text: &str, wanted: u32) -> 
 pub fn assert_faults<R: Abort + AllocGlobal>(rt: &R, table: &[(&str, u32)]) -> Result<(), Fail> {
     for (text, place) in table {
         assert_fault(rt, text, *place)?;
+    }
+    Ok(())
+}
+
+/// Whether each text is a statement that is carried out.
+pub fn assert_carried_out<R: Abort + AllocGlobal>(
+    rt: &R,
+    table: &[(&str, bool)],
+) -> Result<(), Fail> {
+    for (text, wanted) in table {
+        match read(rt, text)? {
+            Ok(statement) => assert_eq!(rt; built(&statement), *wanted, "in {text}"),
+            Err(place) => panic!(rt; "a fault at {place} in {text}"),
+        }
     }
     Ok(())
 }
