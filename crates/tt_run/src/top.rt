@@ -1,8 +1,8 @@
 //! The top call: from the words and the bytes that come in to the bytes that go out.
 
-ghost use Rattle.std.specs.Prelude.{◌≡◌, ◌<◌, ◌+◌, ◌-◌, ◌^◌, ◌↔◌, ℕ, Ok, Err, Some, map, string_bytes, take, length, false, IfOk, IfErr, OnOk, IfSome, OnSome, IfNone, IsSome, IsErrOf};
+ghost use Rattle.std.specs.Prelude.{◌≡◌, ◌<◌, ◌≤◌, ◌+◌, ◌-◌, ◌^◌, ◌↔◌, ℕ, Ok, Err, Some, map, string_bytes, take, length, false, IfOk, IfErr, OnOk, IfSome, OnSome, IfNone, IsSome, IsErrOf};
 ghost use Rattle.std.specs.Io.KnownBytes.{Appends, IsAtEnd, Keeps};
-ghost use Rattle.tt_edge.specs.Outside.{Rose};
+ghost use Rattle.tt_edge.specs.Outside.{LosesFront, Rose};
 ghost use Rattle.tt_script.specs.Answers.{Answers};
 ghost use Rattle.tt_script.specs.Script.{answer_of};
 ghost use Rattle.tt_plain.specs.Replay.{IsLegal, IsComplete};
@@ -62,7 +62,7 @@ pub struct Outcome {
 fn read_script(alloc: Global, bytes: Vec<u8>) -> Result<Program, ReadError>
     requires { length bytes.items < 2 ^ 32 }
     ensures read { Answers (λ program. program) result (answer_of bytes.items) }
-    ensures short { IfOk result (λ program. length program.text < 2 ^ 32) }
+    ensures text { IfOk result (λ program. program.text ≡ bytes.items) }
 {
     read(alloc, bytes)
 }
@@ -70,8 +70,11 @@ fn read_script(alloc: Global, bytes: Vec<u8>) -> Result<Program, ReadError>
 // Reads the input to its end and the script from it.
 fn read_program<S: Source>(alloc: Global, source: &mut S) -> Result<Program, Status>
     ensures read { IfOk result (λ program. IfSome (S.left source.old) (λ left. answer_of left ≡ Ok program)) }
+    ensures spelled { IfOk result (λ program. answer_of program.text ≡ Ok program) }
+    ensures counted { IfOk result (λ program. S.given source.new ≡ S.given source.old + length program.text) }
     ensures short { IfOk result (λ program. length program.text < 2 ^ 32) }
     ensures end { OnOk result (IsAtEnd (S.left source.new)) }
+    ensures taken { LosesFront (S.left source.old) (S.left source.new) (S.given source.new - S.given source.old) }
     ensures early { IfErr result IsEarly }
     ensures bad_input { IfErr result (λ status. IfBadInput status (λ _. IsAtEnd (S.left source.new))) }
     ensures place { IfErr result (λ status. IfBadInput status (λ place. IfSome (S.left source.old) (λ left. answer_of left ≡ Err place))) }
@@ -99,6 +102,7 @@ fn finish<K: Sink>(sink: &mut K, finished: Finished) -> Outcome
     ensures whole { result.status ≡ Status.Ok → Appends (K.holds sink.old) (K.holds sink.new) finished.text.items }
     ensures whole_counted { result.status ≡ Status.Ok → K.received sink.new ≡ K.received sink.old + length finished.text.items }
     ensures prefix { OnSome result.store ((written : ℕ)
+        × (written ≤ length finished.text.items)
         × Appends (K.holds sink.old) (K.holds sink.new) (take written finished.text.items)
         × (K.received sink.new ≡ K.received sink.old + written)) }
     ensures nothing { IfNone result.store (K.received sink.new ≡ K.received sink.old) }
@@ -149,14 +153,19 @@ pub fn top_alone<S: Source, K: Sink>(
     ensures counted { result.status ≡ Status.Ok → IfSome result.store (λ store.
         K.received sink.new ≡ K.received sink.old + length (transcript_of store.program store.history)) }
     ensures prefix { IfSome result.store (λ store. (written : ℕ)
+        × (written ≤ length (transcript_of store.program store.history))
         × Appends (K.holds sink.old) (K.holds sink.new) (take written (transcript_of store.program store.history))
         × (K.received sink.new ≡ K.received sink.old + written)) }
     ensures nothing { IfNone result.store (K.received sink.new ≡ K.received sink.old) }
     ensures untouched { IfNone result.store (Keeps (K.holds sink.old) (K.holds sink.new)) }
 
-    // The program is what the grammar reads from all that the source gave, to its end.
+    // The program is what the grammar reads from all that the source gave, to its end. Where the source tells
+    // its bytes, these are they; else there are as many.
+    ensures spelled { IfSome result.store (λ store. answer_of store.program.text ≡ Ok store.program) }
     ensures read { IfSome result.store (λ store. IfSome (S.left source.old) (λ left. answer_of left ≡ Ok store.program)) }
+    ensures given { IfSome result.store (λ store. S.given source.new ≡ S.given source.old + length store.program.text) }
     ensures end { OnSome result.store (IsAtEnd (S.left source.new)) }
+    ensures taken { LosesFront (S.left source.old) (S.left source.new) (S.given source.new - S.given source.old) }
 
     // When there is a store.
     ensures ok { result.status ≡ Status.Ok → IsSome result.store }
