@@ -360,28 +360,16 @@ fn write_refusal(program: &Script, refusal: &Refusal, out: &mut Vec<u8>) -> Resu
     ensures ok { OnOk result (out.new.items ≡ out.old.items ++ refusal_text program.now refusal.now) }
 {
     match refusal {
-        Refusal::Syntax(place) => write_numbered(b"1 Syntax ", u64::from(*place), out),
-        Refusal::UnknownTable(place) => write_numbered(b"2 UnknownTable ", u64::from(*place), out),
-        Refusal::TableExists(place) => write_numbered(b"3 TableExists ", u64::from(*place), out),
-        Refusal::UnknownColumn(place) => write_numbered(
-            b"4 UnknownColumn ",
-            u64::from(*place),
-            out,
-        ),
-        Refusal::WrongCount(place) => write_numbered(b"5 WrongCount ", u64::from(*place), out),
-        Refusal::TypeMismatch(place) => write_numbered(b"6 TypeMismatch ", u64::from(*place), out),
-        Refusal::NullInNotNull(place) => write_numbered(
-            b"7 NullInNotNull ",
-            u64::from(*place),
-            out,
-        ),
-        Refusal::RetentionRange(place) => write_numbered(
-            b"8 RetentionRange ",
-            u64::from(*place),
-            out,
-        ),
-        Refusal::KindMismatch(place) => write_numbered(b"9 KindMismatch ", u64::from(*place), out),
-        Refusal::UnknownFile(place) => write_numbered(b"10 UnknownFile ", u64::from(*place), out),
+        Refusal::Syntax(place) => write_placed(b"1 Syntax ", *place, out),
+        Refusal::UnknownTable(place) => write_placed(b"2 UnknownTable ", *place, out),
+        Refusal::TableExists(place) => write_placed(b"3 TableExists ", *place, out),
+        Refusal::UnknownColumn(place) => write_placed(b"4 UnknownColumn ", *place, out),
+        Refusal::WrongCount(place) => write_placed(b"5 WrongCount ", *place, out),
+        Refusal::TypeMismatch(place) => write_placed(b"6 TypeMismatch ", *place, out),
+        Refusal::NullInNotNull(place) => write_placed(b"7 NullInNotNull ", *place, out),
+        Refusal::RetentionRange(place) => write_placed(b"8 RetentionRange ", *place, out),
+        Refusal::KindMismatch(place) => write_placed(b"9 KindMismatch ", *place, out),
+        Refusal::UnknownFile(place) => write_placed(b"10 UnknownFile ", *place, out),
         Refusal::InFuture => write_bytes(b"11 InFuture", out),
         Refusal::UnknownStatement => write_bytes(b"12 UnknownStatement", out),
         Refusal::StatementOpen => write_bytes(b"13 StatementOpen", out),
@@ -394,11 +382,11 @@ fn write_refusal(program: &Script, refusal: &Refusal, out: &mut Vec<u8>) -> Resu
         Refusal::ClockEnd => write_bytes(b"18 ClockEnd", out),
         Refusal::InTransaction => write_bytes(b"19 InTransaction", out),
         Refusal::BadData(record, column) => {
-            write_numbered(b"20 BadData ", u64::from(*record), out)?;
-            write_numbered(b" ", u64::from(*column), out)
+            write_placed(b"20 BadData ", *record, out)?;
+            write_placed(b" ", *column, out)
         }
         Refusal::OutOfRange => write_bytes(b"21 OutOfRange", out),
-        Refusal::NullInRow(column) => write_numbered(b"22 NullInRow ", u64::from(*column), out),
+        Refusal::NullInRow(column) => write_placed(b"22 NullInRow ", *column, out),
     }
 }
 
@@ -409,6 +397,13 @@ fn write_end(count: usize, out: &mut Vec<u8>) -> Result<(), AllocError>
     write_numbered(b"%end ", count as u64, out)?;
     write_bytes(b"\n", out)?;
     Ok(())
+}
+
+/// Appends the text and a place, or a number of as few bits, behind it.
+fn write_placed(text: &[u8], place: u32, out: &mut Vec<u8>) -> Result<(), AllocError>
+    ensures ok { OnOk result (out.new.items ≡ out.old.items ++ (text.now ++ decimal place)) }
+{
+    write_numbered(text, u64::from(place), out)
 }
 
 /// Appends the text and the number behind it.
