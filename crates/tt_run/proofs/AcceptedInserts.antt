@@ -1,12 +1,11 @@
 -- The rows of an accepted INSERT are added as they are stored, and each of their values can be written.
-use Rattle.std.proofs.Common.{◌≡◌, ℕ, ◌+◌, ◌<◌, Bool, true, false, List, [], ◌∷◌, ◌++◌, length, map, get_or, drop, append_assoc, Option, Some, None, refl, ap, sym, ◌∙◌, subst, arith}
+use Rattle.std.proofs.Common.{◌≡◌, ℕ, Bool, true, false, List, [], ◌∷◌, ◌++◌, length, map, Option, Some, None, refl, ap, sym, ◌∙◌, subst, arith}
 use Rattle.std.specs.Prelude.{◌==◌, if◌then◌else◌, slice_get, option_and_then, All}
 use Rattle.std.specs.Option.{option_map}
 use Rattle.std.specs.List.{position, zip}
 use Rattle.std.specs.Str.{bytes_eq}
 use Rattle.std.proofs.lemmas.Bool.Decides.{nat_tests}
 use Rattle.std.proofs.lemmas.Option.{slice_get-map}
-use Rattle.std.proofs.lemmas.List.{drop_more}
 use Rattle.std.proofs.lemmas.List.Elements.{All-nil, All-cons}
 use Rattle.tt_value.specs.declared.value.Value.{Value}
 use Rattle.tt_value.specs.declared.value.Value.TheVariants.{Null, Int, Date, Text}
@@ -37,7 +36,7 @@ use Rattle.tt_plain.specs.Places.{each, if_there}
 use Rattle.tt_plain.specs.TypingRefusal.{IsWellTyped}
 use Rattle.tt_plain.specs.WrongCounts.{width, unless_equal, named_again, miscounted_tuple, miscounted_source}
 use Rattle.tt_typer.proofs.Accepted.{well_typed}
-use Rattle.tt_run.specs.InsertedRows.{written, stored_cells, stored_by_name, tuple_cells, stored_tuple, IsAccepted}
+use Rattle.tt_run.specs.InsertedRows.{written, stored_by_name, tuple_cells, stored_tuple, IsAccepted}
 
 -- ---- the rows of an accepted INSERT
 
@@ -108,14 +107,6 @@ by_names names literals columns = by columns
     by : (cs : List Column) → map (λ cell. for_column cell.0 cell.1) (zip cs (map (given_value names (written literals)) cs)) ≡ map (stored_by_name names literals) cs
     by [] = refl
     by (column ∷ cs) = ap (λ values. stored_by_name names literals column ∷ values) (by cs)
-
--- the value at a place is stored: what stands, with the cells that are left, is the same row
-pub cells_more : (done : List Value) (columns : List Column) (literals : List Literal) (i : ℕ) (c : Column) (l : Literal) (all : List Value) → i < length columns → i < length literals → done ++ stored_cells (drop i columns) (drop i literals) ≡ all → (done ++ for_column (get_or columns i c) (get_or literals i l).value ∷ []) ++ stored_cells (drop (i + 1) columns) (drop (i + 1) literals) ≡ all
-cells_more done columns literals i c l all below within stands =
-    let here = get_or columns i c in
-    let value = get_or literals i l in
-    append_assoc done (for_column here value.value ∷ []) (stored_cells (drop (i + 1) columns) (drop (i + 1) literals))
-    ∙ (ap (λ (cells : List Value). done ++ cells) (ap (λ cs. stored_cells cs (value ∷ drop (i + 1) literals)) (sym (drop_more columns i c below)) ∙ ap (stored_cells (drop i columns)) (sym (drop_more literals i l within))) ∙ stands)
 
 -- the cells of a tuple are its row
 pub tuple_is : (schema : Schema) (names : Option (List Name)) (t : Tuple) → ◌≡◌ {A = Row} (record { values = tuple_cells schema.columns names t.values }) (stored_tuple schema names t)

@@ -1,6 +1,6 @@
 -- The number of a text of digits, if it is at most 65,536.
-use Rattle.std.proofs.Common.{◌≡◌, ℕ, suc, ◌+◌, ◌-◌, ◌*◌, ◌<◌, ◌≤◌, Bool, true, false, ◌&&◌, leb, List, [], ◌∷◌, length, take, drop, drop-cons, get_or, Option, None, Some, refl, sym, ap, ◌∙◌, arith}
-use Rattle.std.specs.Prelude.{IfSome, codes, nat_le, not, if◌then◌else◌}
+use Rattle.std.proofs.Common.{◌≡◌, ℕ, suc, ◌+◌, ◌-◌, ◌*◌, ◌<◌, ◌≤◌, Bool, true, false, ◌&&◌, leb, List, [], ◌∷◌, length, take, drop, drop-cons, get_or, Option, None, refl, sym, ap, ◌∙◌, arith}
+use Rattle.std.specs.Prelude.{IfSome, codes, nat_le, if◌then◌else◌}
 use Rattle.std.specs.List.{list_all, fold}
 use Rattle.std.proofs.lemmas.Bool.{and_parts}
 use Rattle.std.proofs.lemmas.Bool.Decides.{nat_tests}
@@ -9,7 +9,7 @@ use Rattle.std.proofs.lemmas.List.Folds.{list_all_at}
 use Rattle.std.proofs.lemmas.List.Sums.{fold-append}
 use Rattle.tt_script.specs.Bytes.{is_digit}
 use Rattle.tt_script.specs.Lines.{only_if, decimal_value}
-use Rattle.tt_run.specs.Words.{is_word, is_rows, rows_said, rows_joined, rows_parted, rows_behind, rows_asked}
+use Rattle.tt_run.specs.Words.{is_word, is_rows, rows_said, rows_behind, rows_asked}
 
 abbrev pub step : ℕ → ℕ → ℕ
 step value digit = 10 * value + (digit - 48)

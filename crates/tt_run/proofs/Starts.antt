@@ -1,6 +1,6 @@
 -- What is known of an INSERT that has begun: it is not refused, was read of a text, and its table's columns are found by their names.
 use Rattle.std.proofs.Common.{◌≡◌, ℕ, ◌+◌, ◌-◌, Bool, true, false, Option, Some, None, Result, Ok, Err, List, [], ◌∷◌, refl, sym, ap, subst, ◌∙◌, arith}
-use Rattle.std.specs.Prelude.{◌==◌, ◌↔◌, is_none, if◌then◌else◌}
+use Rattle.std.specs.Prelude.{◌==◌, is_none, if◌then◌else◌}
 use Rattle.std.specs.List.{find}
 use Rattle.std.specs.Option.{option_map}
 use Rattle.std.specs.Str.{bytes_eq}
@@ -19,37 +19,34 @@ use Rattle.tt_sql.specs.declared.statement.Statement.{Statement}
 use Rattle.tt_sql.specs.declared.statement.Statement.TheVariants as statement
 use Rattle.tt_sql.specs.Built.{built}
 use Rattle.tt_sql.specs.PrintedStatements.{IsWrittenStatement}
-use Rattle.tt_sql.specs.StatementOf.{most_levels, statement_of, IsTextOf}
+use Rattle.tt_sql.specs.StatementOf.{most_levels, statement_of}
 use Rattle.tt_sql.specs.StatementOfLaws.{is_text_of}
 use Rattle.tt_history.specs.declared.history.EntryKind.TheVariants as kind
 use Rattle.tt_history.specs.declared.history.Told.{Told}
 use Rattle.tt_history.specs.declared.history.Told.TheVariants as told
-use Rattle.tt_history.specs.declared.reply.Refusal.{Refusal}
 use Rattle.tt_history.specs.declared.reply.Reply.{Reply}
 use Rattle.tt_history.specs.declared.reply.Reply.TheVariants as reply
 use Rattle.tt_plain.specs.declared.plain.Plain.{Plain}
-use Rattle.tt_plain.specs.declared.plain.PlainOpen.{PlainOpen}
 use Rattle.tt_plain.specs.declared.plain.PlainTable.{PlainTable}
 use Rattle.tt_plain.specs.Answers.{◌>>=◌, only_if}
 use Rattle.tt_plain.specs.AnswersLaws.{bind_some, map_some, only_if_some}
-use Rattle.tt_plain.specs.Carried.{IsCarried, refuses, creates, inserts, queries, carried_built}
+use Rattle.tt_plain.specs.Carried.{IsCarried, creates, inserts, queries, carried_built}
 use Rattle.tt_plain.specs.NamedTables.{live_at}
-use Rattle.tt_plain.specs.Refusals.{refusal_in, refusal_of, refusal_over, refusal_number, opened_of}
+use Rattle.tt_plain.specs.Refusals.{refusal_in, refusal_of, refusal_over, refusal_number}
 use Rattle.tt_plain.specs.RefusalLaws.{insert_on_table, known_on_table}
-use Rattle.tt_plain.specs.Replay.{step_of, session_step}
+use Rattle.tt_plain.specs.Replay.{step_of}
 use Rattle.tt_plain.specs.StartEntry.{start_step, start_told}
 use Rattle.tt_plain.specs.Statements.{is_started, carried_out, statement_at, carried_at}
 use Rattle.tt_plain.specs.StepLaws.{entry_at}
 use Rattle.tt_plain.specs.SoundLaws.{legal_sound}
 use Rattle.tt_plain.specs.SoundStore.{HaveNamedColumns}
-use Rattle.tt_plain.specs.Store.{live_table, next_statement, with_ended, with_opened}
+use Rattle.tt_plain.specs.Store.{live_table, next_statement, with_ended}
 use Rattle.tt_plain.specs.StoreLaws.{next_is}
-use Rattle.tt_plain.specs.TypingRefusal.{typing_refusal}
 use Rattle.tt_plain.specs.ValueKinds.{IsFoundByName}
 use Rattle.tt_state.specs.declared.ticket.Ticket.{Ticket}
 use Rattle.tt_state.specs.Book.{Book}
 use Rattle.tt_state.specs.Tickets.{SeesTables, written_table}
-use Rattle.tt_run.specs.InsertedRows.{IsAccepted, IsFor}
+use Rattle.tt_run.specs.InsertedRows.{IsFor}
 use Rattle.tt_run.specs.Turns.{IsReplayed}
 
 -- ---- a start that answers nothing yet was not refused

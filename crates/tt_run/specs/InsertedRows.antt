@@ -1,5 +1,5 @@
 -- The rows that an INSERT of written rows adds, value by value.
-use Rattle.std.specs.Prelude.{◌≡◌, ℕ, true, List, [], ◌∷◌, map, length, All, Option, Some, None}
+use Rattle.std.specs.Prelude.{◌≡◌, true, List, [], ◌∷◌, map, length, All, Option, Some, None}
 use Rattle.std.specs.List.{zip}
 use Rattle.tt_value.specs.declared.value.Value.{Value}
 use Rattle.tt_value.specs.declared.value.Column.{Column}

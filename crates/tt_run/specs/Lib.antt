@@ -2,8 +2,6 @@ pub mod AnsweredLines
 pub mod Reading
 pub mod InsertedRows
 pub mod Turns
-pub mod TurnsLaws
-pub mod RunLaws
 pub mod Outcomes
 pub mod Top
 pub mod Failures

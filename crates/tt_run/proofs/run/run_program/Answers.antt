@@ -3,10 +3,10 @@ use Rattle.tt_script.specs.declared.script.Script.{Script}
 use Rattle.tt_plain.specs.Replay.{all_done}
 use Rattle.tt_plain.specs.Transcript.{AreReplies}
 use Rattle.tt_state.specs.Book.{Book, StandsFor}
-use Rattle.tt_run.specs.Outcomes.{IsFinished, InOrder}
+use Rattle.tt_run.specs.Outcomes.{IsFinished}
 use Rattle.tt_run.specs.Turns.{HasReplies}
-use Rattle.tt_run.specs.TurnsLaws.{replies_of_run}
-use Rattle.tt_run.specs.RunLaws.{all_are_done}
+use Rattle.tt_run.proofs.TurnsLaws.{replies_of_run}
+use Rattle.tt_run.proofs.RunLaws.{all_are_done}
 use Rattle.tt_run.proofs.run.run_program.Goals as goal
 
 pub transcript-requires : goal.transcript-requires

@@ -1,7 +1,7 @@
 use Rattle.std.proofs.Common.{sym, subst}
 use Rattle.tt_history.specs.declared.reply.Reply.TheVariants as reply
 use Rattle.tt_run.specs.Turns.{Answers}
-use Rattle.tt_run.specs.TurnsLaws.{made_answers}
+use Rattle.tt_run.proofs.TurnsLaws.{made_answers}
 use Rattle.tt_run.proofs.session.answer_query.Goals as goal
 
 pub returns-in_default : goal.returns-in_default

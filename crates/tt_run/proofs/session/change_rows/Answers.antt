@@ -6,7 +6,7 @@ use Rattle.tt_state.specs.declared.ticket.Ticket.{Ticket}
 use Rattle.tt_state.specs.Book.{Book}
 use Rattle.tt_state.specs.Tickets.{IsOpenTicket}
 use Rattle.tt_run.specs.Turns.{Answers}
-use Rattle.tt_run.specs.TurnsLaws.{made_answers}
+use Rattle.tt_run.proofs.TurnsLaws.{made_answers}
 use Rattle.tt_run.proofs.session.change_rows.Goals as goal
 
 pub returns-in_default : goal.returns-in_default

@@ -1,4 +1,4 @@
-use Rattle.tt_run.specs.TurnsLaws.{made_answers}
+use Rattle.tt_run.proofs.TurnsLaws.{made_answers}
 use Rattle.tt_run.proofs.session.refuse_text.Goals as goal
 
 pub returns : goal.returns

@@ -1,10 +1,8 @@
 use Rattle.std.proofs.Common.{subst}
-use Rattle.tt_sql.specs.declared.change.Dml.TheVariants as dml
 use Rattle.tt_sql.specs.declared.statement.Statement.{Statement}
-use Rattle.tt_sql.specs.declared.statement.Statement.TheVariants as statement
 use Rattle.tt_state.specs.Tickets.{IsTicketOf}
 use Rattle.tt_run.specs.Turns.{Answers}
-use Rattle.tt_run.specs.TurnsLaws.{made_goes_on, made_answers, then_answers}
+use Rattle.tt_run.proofs.TurnsLaws.{made_goes_on, made_answers, then_answers}
 use Rattle.tt_run.proofs.Starts.{is_for}
 use Rattle.tt_run.proofs.session.run_insert.Goals as goal
 

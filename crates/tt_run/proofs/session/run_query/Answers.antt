@@ -1,6 +1,6 @@
 use Rattle.std.proofs.Common.{subst}
 use Rattle.tt_run.specs.Turns.{Answers}
-use Rattle.tt_run.specs.TurnsLaws.{made_goes_on, made_answers, then_answers}
+use Rattle.tt_run.proofs.TurnsLaws.{made_goes_on, made_answers, then_answers}
 use Rattle.tt_run.proofs.session.run_query.Goals as goal
 
 pub returns-in-Refused : goal.returns-in-Refused

@@ -1,4 +1,4 @@
-use Rattle.tt_run.specs.TurnsLaws.{made_answers}
+use Rattle.tt_run.proofs.TurnsLaws.{made_answers}
 use Rattle.tt_run.proofs.Starts.{only_these}
 use Rattle.tt_run.proofs.session.run_whole.Goals as goal
 

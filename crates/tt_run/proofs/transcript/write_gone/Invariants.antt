@@ -2,7 +2,6 @@ use Rattle.std.proofs.Common.{◌≡◌, ◌++◌, take}
 use Rattle.std.specs.Prelude.{codes}
 use Rattle.std.specs.Fmt.{decimal}
 use Rattle.std.specs.List.{flat_map}
-use Rattle.tt_plain.specs.Transcript.{part_text}
 use Rattle.tt_run.proofs.transcript.write_gone.Given as goal
 
 abbrev pub invariant-loop-number : goal.invariant-loop-number

@@ -1,4 +1,4 @@
-use Rattle.std.proofs.Common.{◌≡◌, ◌++◌, append_assoc}
+use Rattle.std.proofs.Common.{append_assoc}
 use Rattle.std.specs.Prelude.{codes, slice_get}
 use Rattle.tt_plain.specs.Transcript.{name_of}
 use Rattle.tt_run.proofs.transcript.write_holder.Goals as goal

@@ -1,7 +1,6 @@
 -- The beginning and the end of a run, session after session.
 use Rattle.std.proofs.Common.{◌≡◌, ℕ, zero, suc, ◌+◌, ◌<◌, ◌≤◌, true, ◌==◌, List, [], ◌∷◌, map, length, Some, None, refl, sym, ◌∙◌, ap, subst, inl, inr, arith}
 use Rattle.std.specs.Prelude.{slice_get}
-use Rattle.std.specs.List.{sum_by}
 use Rattle.std.proofs.lemmas.Bool.{cases_lt}
 use Rattle.std.proofs.lemmas.Option.{none-some, same_Some, slice_get_within}
 use Rattle.std.proofs.lemmas.List.Sums.{sum_by-cons}
@@ -13,7 +12,6 @@ use Rattle.tt_plain.specs.declared.plain.PlainSession.{PlainSession}
 use Rattle.tt_plain.specs.Limits.{statement_count, statements_in}
 use Rattle.tt_plain.specs.Store.{empty_store, new_session}
 use Rattle.tt_plain.specs.Replay.{replay_of, replay_from, all_done, is_done}
-use Rattle.tt_plain.specs.SerialOrder.{entries_of}
 use Rattle.tt_plain.specs.SerialOrderLaws.{serial_empty}
 use Rattle.tt_plain.specs.TurnLaws.{IsIdle}
 use Rattle.tt_state.specs.Book.{Book}
@@ -46,14 +44,6 @@ pub none_done : (program : Script) (store : Plain) → AreDone program store 0
 none_done program store = λ session lines less at. absurd (omega (arith, less))
 
 -- ---- a session's turn
-
-pub takes_turn : (book : Book) (session : ℕ) → session < length book.program.sessions → AreNew book session → InTurn book session
-takes_turn book session known new =
-    record {
-      known = known;
-      serial = new.serial;
-      last = λ later behind. new.none later (omega (arith, behind));
-    }
 
 -- behind a session's turn the later ones are new
 pub next_new : (old new : Book) (session : ℕ) → new.program ≡ old.program → AreNew old session → InTurn new session → KeepsOthers old.store new.store session → AreNew new (session + 1)

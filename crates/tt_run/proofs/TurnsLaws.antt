@@ -1,5 +1,5 @@
 -- Entries that a catalog made go on with its replies, and move their own session alone.
-use Rattle.std.proofs.Common.{◌≡◌, ℕ, zero, suc, ◌+◌, ◌-◌, ◌<◌, List, [], ◌∷◌, ◌++◌, length, Option, Some, None, Bool, refl, sym, ◌∙◌, ap, subst}
+use Rattle.std.proofs.Common.{◌≡◌, ℕ, zero, suc, ◌+◌, ◌-◌, List, [], ◌∷◌, ◌++◌, Option, Some, None, Bool, refl, sym, ◌∙◌, ap, subst}
 use Rattle.std.specs.Prelude.{slice_get, slice_set, Result}
 use Rattle.std.proofs.lemmas.Option.{same_Some}
 use Rattle.tt_script.specs.declared.script.Script.{Script}
@@ -22,7 +22,6 @@ use Rattle.tt_plain.specs.Store.{next_statement, with_ended, with_opened, table_
 use Rattle.tt_plain.specs.StoreLaws.{next_from}
 use Rattle.tt_plain.specs.StepLaws.{entry_at}
 use Rattle.tt_plain.specs.Replay.{step_of, replay_of, after, replay_of-snoc}
-use Rattle.tt_plain.specs.SerialOrder.{NoneBehind}
 use Rattle.tt_plain.specs.SerialOrderLaws.{serial_goes_on, none_behind_more}
 use Rattle.tt_plain.specs.Transcript.{given_replies, AreReplies}
 use Rattle.tt_plain.specs.TurnLaws.{IsIdle, answered_idle}
