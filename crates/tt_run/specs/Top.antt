@@ -1,5 +1,5 @@
 -- The statuses of the top call and their causes.
-use Rattle.std.specs.Prelude.{◌≡◌, ◌⊎◌, ℕ, List, length, Result, Ok, Err, nat_lt, if◌then◌else◌, ⊤}
+use Rattle.std.specs.Prelude.{◌≡◌, ◌⊎◌, ◌+◌, ℕ, List, length, take, Option, IfSome, Result, Ok, Err, nat_lt, if◌then◌else◌, ⊤}
 use Rattle.tt_script.specs.declared.script.Script.{Script}
 use Rattle.tt_script.specs.Script.{answer_of}
 use Rattle.tt_run.specs.Words.{are_replay_words}
@@ -43,6 +43,22 @@ IsDue due given = given ≡ due
 -- a status is the one that is due, or want of memory
 abbrev pub IsDueOrMemory : Status → Status → Type 0
 IsDueOrMemory due given = (given ≡ due) ⊎ (given ≡ status.OutOfMemory)
+
+-- the bytes that a source gave: as many as its count rose by, and where it told what it had left, those that it lost from the front
+pub record WasGiven (left : Option (List ℕ)) (before now : ℕ) (input : List ℕ) : Type 0 where
+  pub counted : now ≡ before + length input
+  pub lost : IfSome left (λ bytes. input ≡ take (length input) bytes)
+
+-- the status that was due is one for which the whole input is read: a fact of it
+abbrev pub IfWholeInput : Status → (Status → Type 0) → Type 0
+IfWholeInput status.Ok P = P status.Ok
+IfWholeInput status.WriteFault P = P status.Ok
+IfWholeInput (status.BadInput place) P = P (status.BadInput place)
+IfWholeInput other P = ⊤
+
+-- the bytes that a source gave ask for this status
+abbrev pub GaveFor : Option (List ℕ) → ℕ → ℕ → Status → Type 0
+GaveFor left before now due = (input : List ℕ) × WasGiven left before now input × (input_status input ≡ due)
 
 -- a fact of the place of a bad input
 abbrev pub IfBadInput : Status → (ℕ → Type 0) → Type 0

@@ -10,7 +10,7 @@ ghost use Rattle.tt_plain.specs.SerialOrder.{IsSerialOrder};
 ghost use Rattle.tt_plain.specs.Transcript.{transcript_of};
 ghost use Rattle.tt_run.specs.Outcomes.{IsFinished, IsTranscript, InOrder, Stands};
 ghost use Rattle.tt_run.specs.Words.{partition_rows_of, are_replay_words};
-ghost use Rattle.tt_run.specs.Top.{number_of, longest_input, input_status, due_status, IsDue, IsDueOrMemory, IfBadInput, IsEarly, IsLate};
+ghost use Rattle.tt_run.specs.Top.{number_of, longest_input, input_status, due_status, IsDue, IsDueOrMemory, WasGiven, IfWholeInput, GaveFor, IfBadInput, IsEarly, IsLate};
 
 use crate::run::{Finished, run_program};
 use crate::words::partition_rows;
@@ -73,6 +73,9 @@ fn read_program<S: Source>(alloc: Global, source: &mut S) -> Result<Program, Sta
     ensures spelled { IfOk result (λ program. answer_of program.text ≡ Ok program) }
     ensures counted { IfOk result (λ program. S.given source.new ≡ S.given source.old + length program.text) }
     ensures short { IfOk result (λ program. length program.text < 2 ^ 32) }
+    ensures given { IfOk result (λ program. WasGiven (S.left source.old) (S.given source.old) (S.given source.new) program.text) }
+    ensures whole_ok { OnOk result (GaveFor (S.left source.old) (S.given source.old) (S.given source.new) Status.Ok) }
+    ensures whole { IfErr result (λ status. IfWholeInput status (GaveFor (S.left source.old) (S.given source.old) (S.given source.new))) }
     ensures end { OnOk result (IsAtEnd (S.left source.new)) }
     ensures taken { LosesFront (S.left source.old) (S.left source.new) (S.given source.new - S.given source.old) }
     ensures early { IfErr result IsEarly }
@@ -163,7 +166,7 @@ pub fn top_alone<S: Source, K: Sink>(
     // its bytes, these are they; else there are as many.
     ensures spelled { IfSome result.store (λ store. answer_of store.program.text ≡ Ok store.program) }
     ensures read { IfSome result.store (λ store. IfSome (S.left source.old) (λ left. answer_of left ≡ Ok store.program)) }
-    ensures given { IfSome result.store (λ store. S.given source.new ≡ S.given source.old + length store.program.text) }
+    ensures given { IfSome result.store (λ store. WasGiven (S.left source.old) (S.given source.old) (S.given source.new) store.program.text) }
     ensures end { OnSome result.store (IsAtEnd (S.left source.new)) }
     ensures taken { LosesFront (S.left source.old) (S.left source.new) (S.given source.new - S.given source.old) }
 
@@ -179,6 +182,7 @@ pub fn top_alone<S: Source, K: Sink>(
     ensures too_long { (result.status ≡ Status.TooLong) ↔ (longest_input < S.given source.new - S.given source.old) }
     ensures bad_input { IfBadInput result.status (λ place. IsAtEnd (S.left source.new)
         × IfSome (S.left source.old) (λ left. answer_of left ≡ Err place)) }
+    ensures whole { IfWholeInput result.status (GaveFor (S.left source.old) (S.given source.old) (S.given source.new)) }
     ensures write_fault { result.status ≡ Status.WriteFault → Rose (K.faults sink.old) (K.faults sink.new) }
 
     // Where the source tells its bytes, the words and the bytes say which status is due. Faults and want of
