@@ -8,7 +8,7 @@ use super::outside::Source;
 use std::alloc::{AllocError, Global};
 
 /// Why a source was not read to its end.
-#[derive(Clone, Copy, Debug, PartialEq, Eq)]
+#[derive(Clone, Copy, PartialEq, Eq)]
 pub enum Unread {
     /// The source met a fault.
     Failed,

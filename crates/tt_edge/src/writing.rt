@@ -6,7 +6,7 @@ ghost use Rattle.tt_edge.specs.Outside.{Rose};
 use super::outside::{Sink, Unwritten};
 
 /// Why not all bytes were written, and how many were.
-#[derive(Clone, Copy, Debug, PartialEq, Eq)]
+#[derive(Clone, Copy, PartialEq, Eq)]
 pub struct Unfinished {
     pub why: Unwritten,
     /// How many bytes from the front the sink has received: it has received one exactly where this

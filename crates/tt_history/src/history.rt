@@ -1,3 +1,5 @@
+//! Entries of a history, by sessions and by the store's own work, and the history that they make.
+
 ghost use Rattle.std.specs.Prelude.{◌≡◌, [], ◌∷◌, ◌++◌, ◌+◌, ◌<◌, ◌≤◌, IfOk};
 ghost use Rattle.tt_history.specs.Projection.{is_session, places_of};
 
@@ -6,7 +8,7 @@ use std::marker::Model;
 use tt_value::Sequence;
 
 /// Who makes an entry. A session is its place in the script, from 0.
-#[derive(Clone, Copy, Debug, PartialEq, Eq)]
+#[derive(Clone, Copy, PartialEq, Eq)]
 pub enum Actor {
     Session(u32),
     Recluster,
@@ -14,7 +16,7 @@ pub enum Actor {
 }
 
 /// How the call that made an entry went. A refusal is given by its number.
-#[derive(Clone, Copy, Debug, PartialEq, Eq)]
+#[derive(Clone, Copy, PartialEq, Eq)]
 pub enum Told {
     Done,
     Refused(u8),
@@ -22,7 +24,7 @@ pub enum Told {
 }
 
 /// A partition that an entry adds, by its number: how many rows it has, and how many bytes its image has.
-#[derive(Clone, Copy, Debug, PartialEq, Eq)]
+#[derive(Clone, Copy, PartialEq, Eq)]
 pub struct Added {
     pub number: u64,
     pub rows: u32,
@@ -31,7 +33,7 @@ pub struct Added {
 
 /// Why a round of reclustering changed nothing: its table was dropped; it was suspended or its key changed;
 /// a session has an exclusive mark on it; a partition has left it; or memory ran out.
-#[derive(Clone, Copy, Debug, PartialEq, Eq)]
+#[derive(Clone, Copy, PartialEq, Eq)]
 pub enum Miss {
     Dropped,
     Suspended,
@@ -43,7 +45,7 @@ pub enum Miss {
 }
 
 /// What an entry records. Partitions are given by their numbers, in ascending order.
-#[derive(Debug, Drop)]
+#[derive(Drop)]
 pub enum EntryKind {
     Begin(Told),
     Start(Told),
@@ -81,7 +83,7 @@ pub enum EntryKind {
 
 /// One event. The moment is in milliseconds since 1970-01-01 00:00:00 UTC, and the index is that of the
 /// actor's statement, from 1.
-#[derive(Debug, Drop)]
+#[derive(Drop)]
 pub struct Entry {
     pub moment: u64,
     pub actor: Actor,
@@ -90,7 +92,7 @@ pub struct Entry {
 }
 
 /// The entries in the order in which they were made.
-#[derive(Debug, Drop)]
+#[derive(Drop)]
 pub struct History {
     entries: Vec<Entry>,
 }

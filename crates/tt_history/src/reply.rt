@@ -1,3 +1,5 @@
+//! What statements answer, why they are refused, and rows that several owners share.
+
 ghost use Rattle.std.specs.Prelude.{◌≡◌, All, IfOk};
 ghost use Rattle.tt_value.specs.RowText.{IsPrintable};
 
@@ -8,7 +10,7 @@ use tt_value::{Bag, Row};
 
 /// Why a statement was not carried out, in the order of the refusals' numbers, which go from 1. Where
 /// nothing else is said the content is a place, a byte offset from the statement's first token.
-#[derive(Clone, Copy, Debug, PartialEq, Eq)]
+#[derive(Clone, Copy, PartialEq, Eq)]
 pub enum Refusal {
     Syntax(u32),
     UnknownTable(u32),
@@ -41,14 +43,14 @@ pub enum Refusal {
 }
 
 /// A bag that several owners share. Contracts see its rows.
-#[derive(Debug, Drop)]
+#[derive(Drop)]
 pub struct SharedBag {
     bag: Arc<Bag>,
 }
 
 /// What a statement answers. The rows of a query come in the order of its answer. They stand in a bag, which
 /// is sorted: that is this order as long as no ORDER BY is carried out.
-#[derive(Debug, Drop)]
+#[derive(Drop)]
 pub enum Reply {
     Ok,
     /// How many rows, here and in the two below.

@@ -4,8 +4,6 @@
 pub mod laws;
 mod lexer;
 mod scan;
-#[cfg(test)]
-mod tests;
 
 ghost use Rattle.std.specs.Prelude.{◌≡◌};
 ghost use Rattle.tt_lex.specs.declared.TokensError.TheVariants.{Lex, Memory};
@@ -14,7 +12,7 @@ pub use lexer::tokens;
 use std::alloc::{AllocError, AllocFailed};
 
 /// What a token is.
-#[derive(Clone, Copy, Debug, PartialEq, Eq)]
+#[derive(Clone, Copy, PartialEq, Eq)]
 pub enum TokenKind {
     /// A letter or `_`, and then letters, digits, `_` and `$`.
     Word,
@@ -27,7 +25,7 @@ pub enum TokenKind {
 }
 
 /// A token of a text: its bytes are those from `start` up to `end`.
-#[derive(Clone, Copy, Debug, PartialEq, Eq)]
+#[derive(Clone, Copy, PartialEq, Eq)]
 pub struct Token {
     pub start: u32,
     pub end: u32,
@@ -35,7 +33,7 @@ pub struct Token {
 }
 
 /// Why a text has no tokens, with the place of the fault as a byte offset.
-#[derive(Clone, Copy, Debug, PartialEq, Eq)]
+#[derive(Clone, Copy, PartialEq, Eq)]
 pub enum LexFault {
     /// A byte that begins no token, or a control character in a quoted text.
     BadByte(u32),
@@ -50,7 +48,7 @@ pub enum LexFault {
 }
 
 /// Why no tokens are given.
-#[derive(Clone, Copy, Debug, PartialEq, Eq)]
+#[derive(Clone, Copy, PartialEq, Eq)]
 pub enum TokensError {
     /// The text has this fault, and none further to the left.
     Lex(LexFault),

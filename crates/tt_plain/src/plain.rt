@@ -1,8 +1,10 @@
+//! The plain store: its tables with each version, its sessions and its points.
+
 use tt_history::SharedBag;
 use tt_value::{Schema, Sequence, Text};
 
 /// The rows of a table from a moment on.
-#[derive(Debug, Drop)]
+#[derive(Drop)]
 pub struct Version {
     /// In milliseconds since 1970-01-01 00:00:00 UTC, as all moments are.
     pub begun: u64,
@@ -11,7 +13,7 @@ pub struct Version {
 
 /// A table with a full copy of the rows of each of its versions, the oldest first. Tables are numbered
 /// from 1 in the order of their making.
-#[derive(Debug, Drop)]
+#[derive(Drop)]
 pub struct PlainTable {
     pub number: u32,
     pub name: Text,
@@ -23,7 +25,7 @@ pub struct PlainTable {
 
 /// A statement that has begun: the tables that it reads and the one that it changes, each by its number
 /// with the rows that the statement sees of it.
-#[derive(Debug, Drop)]
+#[derive(Drop)]
 pub struct PlainOpen {
     /// From 1, among the statements of its session.
     pub index: u32,
@@ -32,7 +34,7 @@ pub struct PlainOpen {
 }
 
 /// A session: how many of its statements have ended, and the one that is open.
-#[derive(Debug, Drop)]
+#[derive(Drop)]
 pub struct PlainSession {
     pub done: u32,
     pub running: Option<PlainOpen>,
@@ -41,7 +43,7 @@ pub struct PlainSession {
 /// A store that keeps each version of each table as a full copy of its rows. The points are those of
 /// all statements, session after session: none where the statement has no entry yet, and the greatest
 /// u64 where it has an entry and is still open.
-#[derive(Debug, Drop)]
+#[derive(Drop)]
 pub struct Plain {
     /// That of the last entry, or the start of the script where there is none.
     pub moment: u64,

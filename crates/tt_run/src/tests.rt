@@ -325,7 +325,7 @@ fn words_ask_for_the_rows_of_a_partition(rt: HostRuntime) -> Result<(), Fail> {
         let outcome = top_alone(rt.alloc(), words.as_slice(), &mut source, &mut sink);
         assert!(rt; outcome.status == Status::Ok);
         assert!(rt;
-            outcome.store.is_some_and(|store| store.cap == rows),
+            outcome.store.is_some_and(|store| store.cap() == rows),
             "{rows}"
         );
     }

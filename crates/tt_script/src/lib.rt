@@ -10,21 +10,19 @@ pub mod laws;
 mod lines;
 mod reader;
 mod script;
-#[cfg(test)]
-mod tests;
 
 pub use reader::read;
 pub use script::{FileText, Program, Script, ScriptText, SessionText, Turn};
 use std::alloc::{AllocError, AllocFailed};
 
 /// Bytes that are no script. The place is the byte offset at which the first faulty line begins.
-#[derive(Clone, Copy, Debug, PartialEq, Eq)]
+#[derive(Clone, Copy, PartialEq, Eq)]
 pub struct BadInput {
     pub place: u64,
 }
 
 /// Why no program is given.
-#[derive(Clone, Copy, Debug, PartialEq, Eq)]
+#[derive(Clone, Copy, PartialEq, Eq)]
 pub enum ReadError {
     Bad(BadInput),
     Memory,

@@ -10,7 +10,7 @@ use std::sync::Arc;
 use tt_value::{Sequence, Text};
 
 /// A turn of a script: the next event of a session, counted from 0, or of the store's own work.
-#[derive(Clone, Copy, Debug, PartialEq, Eq)]
+#[derive(Clone, Copy, PartialEq, Eq)]
 pub enum Turn {
     Session(u32),
     Recluster,
@@ -19,20 +19,20 @@ pub enum Turn {
 }
 
 /// The text of a script. Contracts see its bytes.
-#[derive(Debug, Drop)]
+#[derive(Drop)]
 pub struct ScriptText {
     text: String,
 }
 
 /// A session's name, and where each of its statements begins and ends in the script, in bytes.
-#[derive(Debug, Drop)]
+#[derive(Drop)]
 pub struct SessionText {
     pub name: Text,
     pub statements: Sequence<(u32, u32)>,
 }
 
 /// A staged file's name, and where its content begins and ends in the script, in bytes.
-#[derive(Debug, Drop)]
+#[derive(Drop)]
 pub struct FileText {
     pub name: Text,
     pub start: u32,
@@ -40,7 +40,7 @@ pub struct FileText {
 }
 
 /// The parts of a program. The start is the moment before the first event, in milliseconds.
-#[derive(Debug, Drop)]
+#[derive(Drop)]
 pub struct Script {
     pub start: u64,
     pub text: ScriptText,
@@ -51,7 +51,7 @@ pub struct Script {
 
 /// A program, which its owners share. Contracts see its parts, and that they are within the limits of scripts and
 /// fit each other.
-#[derive(Debug, Drop)]
+#[derive(Drop)]
 pub struct Program {
     script: Arc<Script>,
 }

@@ -1,4 +1,5 @@
-// What the lock asks of the value that it guards.
+//! What the lock asks of the value that it guards.
+
 ghost use Rattle.std.specs.Prelude.{◌≡◌, ℕ, ◌^◌, ◌<◌, List, length};
 
 /// A value that has a history and a ground. The history is a list of entries, each with the number of the pass that made

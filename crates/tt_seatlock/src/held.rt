@@ -1,3 +1,5 @@
+//! The book while a pass has it.
+
 use crate::book::Book;
 use crate::lock::SeatLock;
 use crate::pass::Pass;

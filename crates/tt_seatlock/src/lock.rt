@@ -1,3 +1,5 @@
+//! The lock: entering, leaving, parting and joining passes, and its end.
+
 ghost use Rattle.std.specs.Prelude.{◌≡◌};
 
 use crate::book::Book;

@@ -1,3 +1,5 @@
+//! Passes, by whose numbers entries are told apart.
+
 ghost use Rattle.std.specs.Prelude.{◌≡◌};
 ghost use Rattle.tt_seatlock.specs.Views.{IsIdle};
 

@@ -1,4 +1,5 @@
-// The rule of the lock, and what each step on its word tells.
+//! The rule of the lock, and what each step on its word tells.
+
 use crate::book::Book;
 use crate::view::View;
 use atomic_table::{Join, Play, Split, TableRule};

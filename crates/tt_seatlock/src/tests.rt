@@ -1,4 +1,5 @@
-// A book of notes, each with the number of its pass and a value, under threads.
+//! A book of notes, each with the number of its pass and a value, under threads.
+
 ghost use Rattle.std.specs.Prelude.{◌≡◌, ℕ, ◌+◌, ◌<◌, ◌^◌, [], ◌∷◌, ◌++◌, if◌then◌else◌, slice_index_or, vec_len, map, All, IfOk};
 ghost use mathlib.Core.List.{IsPrefix};
 ghost use Rattle.tt_seatlock.specs.History.{made_by};

@@ -1,3 +1,5 @@
+//! What a pass has seen.
+
 use std::collections::LinkedList;
 
 /// What a seat at the lock knows. No value of it is made: it exists in proofs alone.

@@ -1,3 +1,5 @@
+//! The calls by which statements change the catalog, each of which makes one entry.
+
 ghost use Rattle.std.specs.Prelude.{◌≡◌, true, Some, Ok, Err, [], IfOk, IfErr};
 ghost use Rattle.tt_plain.specs.Statements.{is_started, is_definition};
 ghost use Rattle.tt_plain.specs.Store.{next_statement};

@@ -1,3 +1,5 @@
+//! The catalog and how it begins.
+
 ghost use Rattle.std.specs.Prelude.{◌≡◌, ◌≤◌, [], ◌++◌, length, IfOk, OnOk, map};
 ghost use Rattle.std.specs.List.{flat_map};
 ghost use Rattle.tt_plain.specs.Limits.{statements_in, entry_limit};
@@ -16,11 +18,10 @@ use tt_script::{Program, Script, SessionText};
 /// is legal and leads to its store.
 #[derive(Drop)]
 pub struct Catalog {
-    pub program: Program,
-    /// The most rows of a partition.
-    pub cap: u32,
-    pub history: History,
-    pub state: State,
+    pub(crate) program: Program,
+    pub(crate) cap: u32,
+    pub(crate) history: History,
+    pub(crate) state: State,
 }
 
 impl Model for Catalog {
@@ -106,6 +107,13 @@ impl Catalog {
             history: History::with_room(alloc, entry_room(script))?,
             state: first_state(alloc, script)?,
         })
+    }
+
+    /// The most rows of a partition.
+    pub fn cap(&self) -> u32
+        ensures { result ≡ self.now.cap }
+    {
+        self.cap
     }
 
     /// What was done so far, refused statements included.

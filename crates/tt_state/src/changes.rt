@@ -1,3 +1,5 @@
+//! Rows that a change adds to a table.
+
 ghost use Rattle.std.specs.Prelude.{◌≡◌, ◌<◌, ◌≤◌, ◌+◌, ◌^◌, length, All, IfOk, OnOk, OnErr, Some};
 ghost use Rattle.tt_value.specs.BagRows.{bag_of, bag_plus};
 ghost use Rattle.tt_value.specs.RowText.{IsPrintable};

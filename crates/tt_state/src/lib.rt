@@ -8,8 +8,6 @@ pub mod definitions;
 pub mod lookup;
 pub mod opening;
 pub mod state;
-#[cfg(test)]
-mod tests;
 pub mod ticket;
 
 pub use catalog::Catalog;

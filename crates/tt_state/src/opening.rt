@@ -1,3 +1,5 @@
+//! How a statement begins: what it sees of the tables.
+
 ghost use Rattle.std.specs.Prelude.{◌≡◌, map, true, None, Ok, IfOk};
 ghost use Rattle.std.specs.Option.{option_map};
 ghost use Rattle.tt_sql.specs.Built.{built as is_built};

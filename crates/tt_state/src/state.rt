@@ -1,3 +1,5 @@
+//! What the catalog keeps beside its program and its history, and how a statement begins and ends in it.
+
 ghost use Rattle.std.specs.Prelude.{◌≡◌, ◌+◌, ◌-◌, ◌<◌, ◌≤◌, ◌^◌, length, OnOk, OnErr};
 ghost use Rattle.tt_plain.specs.Store.{point_place, with_ended, with_opened};
 ghost use Rattle.tt_state.specs.PlainOf.{plain_of};

@@ -1,3 +1,5 @@
+//! Tickets of open statements, and what comes of them.
+
 use tt_history::{Refusal, SharedBag};
 use tt_value::{Row, Schema};
 

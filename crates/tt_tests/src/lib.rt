@@ -1,8 +1,6 @@
-//! Tests that cross crates, and those of many rows.
+//! Tests of the parser, of the printer and of typing.
 #![tactic(auto)]
 
-#[cfg(test)]
-mod histories;
 #[cfg(test)]
 mod parsing;
 #[cfg(test)]

@@ -16,7 +16,7 @@ use tt_sql::{Statement, built, print};
 /// The statement that a text is, or the place of its fault.
 fn read<R: Abort + AllocGlobal>(rt: &R, text: &str) -> Result<Result<Statement, u32>, Fail> {
     assert!(rt; text.len() < 1_000_000);
-    let list = tokens(rt.alloc(), text)?;
+    let list = tokens(rt.alloc(), text).ok().ok_or("no tokens")?;
     match parse(rt.alloc(), text, &list) {
         Ok(statement) => Ok(Ok(statement)),
         Err(ParseError::Syntax(fault)) => Ok(Err(fault.place)),

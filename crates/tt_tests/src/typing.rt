@@ -36,7 +36,7 @@ fn schema_of(alloc: Global, columns: &[(&str, Kind, bool)]) -> Result<Schema, Fa
     let mut list = Vec::new(alloc);
     for (name, kind, nullable) in columns {
         list.push(Column {
-            name: Text::from_str(alloc, name)?,
+            name: Text::from_str(alloc, name).ok().ok_or("no text")?,
             kind: *kind,
             nullable: *nullable,
         })?;
@@ -82,7 +82,7 @@ fn schemas(alloc: Global, tables: &[Table]) -> Result<Vec<Schema>, Fail> {
 
 fn statement_of<R: Abort + AllocGlobal>(rt: &R, text: &str) -> Result<Statement, Fail> {
     assert!(rt; text.len() < 1_000_000);
-    let list = tokens(rt.alloc(), text)?;
+    let list = tokens(rt.alloc(), text).ok().ok_or("no tokens")?;
     match parse(rt.alloc(), text, &list) {
         Ok(statement) => Ok(statement),
         Err(ParseError::Syntax(fault)) => panic!(rt; "a fault at {} in {text}", fault.place),
@@ -140,7 +140,7 @@ fn assert_refused<R: Abort + AllocGlobal>(
 ) -> Result<(), Fail> {
     let list = schemas(rt.alloc(), tables)?;
     assert!(rt; names(statement, list.len()), "in {text}");
-    assert_eq!(rt; check(statement, &list).err(), wanted, "in {text}");
+    assert!(rt; check(statement, &list).err() == wanted, "in {text}");
     Ok(())
 }
 

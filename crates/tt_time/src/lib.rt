@@ -4,17 +4,15 @@
 mod dates;
 mod digits;
 pub mod laws;
-#[cfg(test)]
-mod tests;
 mod timestamps;
 
 pub use dates::{read_date, write_date};
 pub use timestamps::read_timestamp;
 
 /// A text that is no date.
-#[derive(Clone, Copy, Debug, PartialEq, Eq)]
+#[derive(Clone, Copy, PartialEq, Eq)]
 pub struct BadDate;
 
 /// A text that is no timestamp.
-#[derive(Clone, Copy, Debug, PartialEq, Eq)]
+#[derive(Clone, Copy, PartialEq, Eq)]
 pub struct BadTimestamp;

@@ -1,3 +1,5 @@
+//! The refusal of a statement over its tables.
+
 ghost use Rattle.std.specs.Prelude.{◌≡◌, length, None, Some, OnOk, IfErr};
 ghost use Rattle.tt_plain.specs.Tables.{tables_of, IsOverOneTable};
 ghost use Rattle.tt_plain.specs.TypingRefusal.{typing_refusal};

@@ -1,3 +1,5 @@
+//! Bags: sorted lists of rows, copies kept.
+
 ghost use Rattle.std.specs.Prelude.{◌≡◌, ◌+◌, ◌-◌, ◌++◌, List, IfOk};
 ghost use Rattle.tt_value.specs.declared.value.Row.{Row};
 ghost use Rattle.tt_value.specs.BagRows.{IsBag, bag_of, bag_plus, bag_minus, copies_of};
@@ -9,7 +11,7 @@ use std::cmp::Ordering;
 use std::marker::Model;
 
 /// A sorted list of rows, copies kept. Contracts see the list. It keeps the allocator of its rows.
-#[derive(Clone, Debug, Drop)]
+#[derive(Clone, Drop)]
 pub struct Bag {
     rows: Vec<Row>,
 }

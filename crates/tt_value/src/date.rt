@@ -1,3 +1,5 @@
+//! How dates are written.
+
 ghost use Rattle.std.specs.Prelude.{◌≡◌, ◌≤◌, ◌++◌, OnOk, OnErr};
 ghost use Rattle.tt_value.specs.Calendar.{IsDay, date_of, date_text, day_text};
 

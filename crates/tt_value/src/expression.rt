@@ -20,7 +20,7 @@ pub struct Addend {
 }
 
 /// Whether a further term is added or taken away.
-#[derive(Clone, Copy, Debug, PartialEq, Eq)]
+#[derive(Clone, Copy, PartialEq, Eq)]
 pub enum Sign {
     Plus,
     Minus,

@@ -23,6 +23,3 @@ pub use print::write_row;
 pub use sequence::Sequence;
 pub use text::{BadText, Text};
 pub use value::{Column, Kind, Row, Schema, Value};
-
-#[cfg(test)]
-mod tests;

@@ -1,3 +1,5 @@
+//! The order of values and of rows.
+
 ghost use Rattle.std.specs.Prelude.{◌≡◌};
 ghost use Rattle.std.specs.Cmp.{IsTotalOrder, partial_order_from_own_ties};
 ghost use Rattle.std.specs.Ordering.{as_partial_cmp, eq_by_cmp};

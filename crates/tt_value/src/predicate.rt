@@ -42,7 +42,7 @@ pub enum Operand {
 }
 
 /// A sign between two operands. `<>` and `!=` are one.
-#[derive(Clone, Copy, Debug, PartialEq, Eq)]
+#[derive(Clone, Copy, PartialEq, Eq)]
 pub enum Comparison {
     Equal,
     NotEqual,
@@ -53,7 +53,7 @@ pub enum Comparison {
 }
 
 /// Whether a row meets a predicate. It is unknown where a NULL leaves it open.
-#[derive(Clone, Copy, Debug, PartialEq, Eq)]
+#[derive(Clone, Copy, PartialEq, Eq)]
 pub enum Truth {
     True,
     False,

@@ -1,3 +1,5 @@
+//! How rows are written.
+
 ghost use Rattle.std.specs.Prelude.{◌≡◌, ◌++◌, ◌∷◌, [], OnOk, OnErr};
 ghost use Rattle.std.specs.Fmt.{signed_decimal};
 ghost use Rattle.tt_value.specs.RowText.{IsPrintable, IsPrintableValue, Extends, row_text, value_text, quotes_doubled};

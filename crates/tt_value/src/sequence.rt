@@ -1,3 +1,5 @@
+//! Lists of items that contracts see as lists.
+
 ghost use Rattle.std.specs.Prelude.{◌≡◌, ◌↔◌, [], ◌∷◌, ◌++◌, ◌<◌, length, slice_get, IsTrue, OnOk, OnErr};
 ghost use Rattle.std.specs.Option.{option_copied};
 
@@ -6,7 +8,7 @@ use std::marker::Model;
 
 /// A `Vec` that contracts see as the list of its items, so that a value that holds one can equal a
 /// value of a definition. It keeps the allocator of its `Vec`.
-#[derive(Clone, Debug, Drop)]
+#[derive(Clone, Drop)]
 pub struct Sequence<T> {
     items: Vec<T>,
 }

@@ -1,3 +1,5 @@
+//! Texts, as columns of the kind VARCHAR hold them.
+
 ghost use Rattle.std.specs.Prelude.{◌≡◌, ◌≤◌, ◌<◌, ◌↔◌, length, All, IsTrue, IfOk, IfErr, IfSome};
 ghost use Rattle.std.specs.Str.{bytes_eq};
 ghost use Rattle.std.specs.Cmp.{partial_equiv_from_equiv};
@@ -13,7 +15,7 @@ use std::marker::Model;
 pub const LONGEST_TEXT: usize = 65_535;
 
 /// Why a text is no value of a VARCHAR column. A place is a byte offset.
-#[derive(Clone, Copy, Debug, PartialEq, Eq)]
+#[derive(Clone, Copy, PartialEq, Eq)]
 pub enum BadText {
     TooLong,
     Control(u32),
@@ -30,7 +32,7 @@ impl From<AllocError> for BadText {
 
 /// A text of at most 65,535 bytes of UTF-8 without the characters U+0000 to U+001F and U+007F.
 /// Contracts see its bytes.
-#[derive(Clone, Debug, Drop)]
+#[derive(Clone, Drop)]
 pub struct Text {
     text: String,
 }

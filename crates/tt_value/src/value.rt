@@ -1,8 +1,10 @@
+//! Values, rows, and the columns of a table.
+
 use crate::sequence::Sequence;
 use crate::text::Text;
 
 /// What a column holds.
-#[derive(Clone, Copy, Debug, PartialEq, Eq)]
+#[derive(Clone, Copy, PartialEq, Eq)]
 pub enum Kind {
     Int,
     Date,
@@ -10,7 +12,7 @@ pub enum Kind {
 }
 
 /// A value of a row. A date is a day number, day 0 being 1970-01-01.
-#[derive(Clone, Debug, Drop)]
+#[derive(Clone, Drop)]
 pub enum Value {
     Null,
     Int(i64),
@@ -19,7 +21,7 @@ pub enum Value {
 }
 
 /// A column of a table. Its name is in upper case.
-#[derive(Clone, Debug, Drop)]
+#[derive(Clone, Drop)]
 pub struct Column {
     pub name: Text,
     pub kind: Kind,
@@ -27,13 +29,13 @@ pub struct Column {
 }
 
 /// The columns of a table, in the order in which they were defined.
-#[derive(Clone, Debug, Drop)]
+#[derive(Clone, Drop)]
 pub struct Schema {
     pub columns: Sequence<Column>,
 }
 
 /// One value for each column, in the order of the schema.
-#[derive(Clone, Debug, Drop)]
+#[derive(Clone, Drop)]
 pub struct Row {
     pub values: Sequence<Value>,
 }

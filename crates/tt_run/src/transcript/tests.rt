@@ -12,7 +12,7 @@ use tt_value::{Bag, Row, Sequence, Text, Value};
 fn program(alloc: Global) -> Result<Script, Fail> {
     let mut sessions = Sequence::new(alloc);
     sessions.push(SessionText {
-        name: Text::from_str(alloc, "a")?,
+        name: Text::from_str(alloc, "a").ok().ok_or("no text")?,
         statements: Sequence::new(alloc),
     })?;
     Ok(Script {

@@ -17,7 +17,7 @@ fn with_schema(alloc: Global, insert: Insert) -> Result<Insert, Fail> {
     } = insert;
     let TableName { schema: _, name } = table;
     let schema = Some(Name {
-        text: Text::from_str(alloc, "A")?,
+        text: Text::from_str(alloc, "A").ok().ok_or("no text")?,
         place: 12,
     });
     Ok(Insert {

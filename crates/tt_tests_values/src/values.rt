@@ -1,18 +1,19 @@
+//! Values: their order, rows and bags of rows, how they are written, texts and lists.
+
 ghost use Rattle.tt_value.specs.RowText.{IsPrintableValue};
 ghost use Rattle.std.specs.Prelude.{◌∷◌, [], ◌++◌, All};
 
-use crate::bag::Bag;
-use crate::order::{compare, compare_rows};
-use crate::print::write_row;
-use crate::sequence::Sequence;
-use crate::text::{BadText, Text};
-use crate::value::{Row, Value};
 use std::alloc::Global;
 use std::cmp::Ordering;
 use std::test::Fail;
+use tt_value::{BadText, Bag, Row, Sequence, Text, Value, compare, compare_rows, write_row};
+
+fn text_of(alloc: Global, text: &str) -> Result<Text, Fail> {
+    Ok(Text::from_str(alloc, text).ok().ok_or("no text")?)
+}
 
 fn text(alloc: Global, text: &str) -> Result<Value, Fail> {
-    Ok(Value::Text(Text::from_str(alloc, text)?))
+    Ok(Value::Text(text_of(alloc, text)?))
 }
 
 fn number_row(alloc: Global, numbers: &[i64]) -> Result<Row, Fail> {
@@ -61,11 +62,7 @@ fn values_stand_by_kind_then_by_content(rt: HostRuntime) -> Result<(), Fail> {
     ]?;
     for (i, first) in ascending.iter().enumerate() {
         for (j, second) in ascending.iter().enumerate() {
-            assert_eq!(rt;
-                compare(first, second),
-                i.cmp(&j),
-                "{first:?} and {second:?}"
-            );
+            assert!(rt; compare(first, second) == i.cmp(&j), "{i} and {j}");
         }
     }
     Ok(())
@@ -81,15 +78,11 @@ fn rows_stand_value_by_value(rt: HostRuntime) -> Result<(), Fail> {
         (&[1, 2], &[1, 2], Ordering::Equal),
         (&[1, 3], &[1, 2], Ordering::Greater),
     ];
-    for (first, second, wanted) in rows {
+    for (at, (first, second, wanted)) in rows.into_iter().enumerate() {
         let first = number_row(alloc, first)?;
         let second = number_row(alloc, second)?;
-        assert_eq!(rt;
-            compare_rows(&first, &second),
-            wanted,
-            "{first:?} and {second:?}"
-        );
-        assert_eq!(rt; first == second, wanted == Ordering::Equal);
+        assert!(rt; compare_rows(&first, &second) == wanted, "{at}");
+        assert_eq!(rt; first == second, wanted == Ordering::Equal, "{at}");
     }
     Ok(())
 }
@@ -187,7 +180,7 @@ fn values_are_written(rt: HostRuntime) -> Result<(), Fail> {
         ("'", "''''"),
         ("é", "'é'"),
     ] {
-        let out = line_of_one(alloc, Value::Text(Text::from_str(alloc, content)?))?;
+        let out = line_of_one(alloc, Value::Text(text_of(alloc, content)?))?;
         assert_eq!(rt; out.as_slice(), wanted.as_bytes());
     }
     Ok(())
@@ -199,7 +192,7 @@ fn commas_stand_between_values(rt: HostRuntime) -> Result<(), Fail> {
     let mut values = Vec::new(alloc);
     values.push(Value::Int(-3))?;
     values.push(Value::Date(-719_162))?;
-    values.push(Value::Text(Text::from_str(alloc, "it's")?))?;
+    values.push(Value::Text(text_of(alloc, "it's")?))?;
     values.push(Value::Date(2_932_896))?;
     values.push(Value::Null)?;
     let out = line(alloc, values)?;
@@ -223,7 +216,7 @@ fn texts_are_judged_by_length_then_by_characters(rt: HostRuntime) -> Result<(), 
         ("é\u{7f}", Some(BadText::Control(2))),
     ] {
         let found = Text::from_str(alloc, content).err();
-        assert_eq!(rt; found, wanted, "{content:?}");
+        assert!(rt; found == wanted, "{content:?}");
     }
     Ok(())
 }
@@ -232,11 +225,11 @@ fn texts_are_judged_by_length_then_by_characters(rt: HostRuntime) -> Result<(), 
 fn a_text_has_at_most_65535_bytes(rt: HostRuntime) -> Result<(), Fail> {
     let alloc = rt.alloc();
     let mut bytes = vec![in alloc; b'a'; 65_535]?;
-    let longest = Text::from_str(alloc, str::from_utf8(&bytes)?)?;
+    let longest = text_of(alloc, str::from_utf8(&bytes)?)?;
     assert_eq!(rt; longest.as_str().len(), 65_535);
     bytes.push(b'\n')?;
     let found = Text::from_str(alloc, str::from_utf8(&bytes)?).err();
-    assert_eq!(rt; found, Some(BadText::TooLong));
+    assert!(rt; found == Some(BadText::TooLong));
     Ok(())
 }
 
@@ -246,8 +239,8 @@ fn a_text_is_told_by_its_bytes(rt: HostRuntime) -> Result<(), Fail> {
     let name = Text::from_ascii(alloc, b"SYSTEM$WAIT")?;
     assert!(rt; name.is(b"SYSTEM$WAIT"));
     assert!(rt; !name.is(b"SYSTEM$WAI"));
-    assert!(rt; name == Text::from_str(alloc, "SYSTEM$WAIT")?);
-    assert!(rt; name != Text::from_str(alloc, "system$wait")?);
+    assert!(rt; name == text_of(alloc, "SYSTEM$WAIT")?);
+    assert!(rt; name != text_of(alloc, "system$wait")?);
     Ok(())
 }
 

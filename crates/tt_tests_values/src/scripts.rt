@@ -1,7 +1,9 @@
-use crate::{BadInput, Program, ReadError, read};
+//! Scripts: their sessions and statements, and their first faulty lines.
+
 use std::alloc::{AllocError, Global};
 use std::process::Abort;
 use std::test::Fail;
+use tt_script::{BadInput, Program, ReadError, read};
 
 fn bytes_of(alloc: Global, text: &str) -> Result<Vec<u8>, AllocError> {
     let mut bytes = Vec::new(alloc);
@@ -14,7 +16,8 @@ fn program<R: Abort + AllocGlobal>(rt: &R, text: &str) -> Result<Program, Fail> 
     assert!(rt; bytes.len() < 1_000_000);
     match read(rt.alloc(), bytes) {
         Ok(program) => Ok(program),
-        Err(error) => panic!(rt; "{error:?} in {text:?}"),
+        Err(ReadError::Bad(BadInput { place })) => panic!(rt; "a fault at {place} in {text:?}"),
+        Err(ReadError::Memory) => panic!(rt; "no memory for {text:?}"),
     }
 }
 

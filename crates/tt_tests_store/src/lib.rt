@@ -1,0 +1,7 @@
+//! Tests of histories and of the catalog.
+#![tactic(auto)]
+
+#[cfg(test)]
+mod catalog;
+#[cfg(test)]
+mod histories;
