@@ -19,8 +19,8 @@ use Rattle.tt_sql.specs.Checks.{nowhere}
 use Rattle.tt_sql.specs.FrontLaws.{or_split, and_join, false≢true}
 use Rattle.tt_sql.specs.TokenKinds.{COUNT, NAME, LONG_NAME, SHORT_NUMBER, NUMBER, LEAST_NUMBER, LARGE_NUMBER, DATE_TEXT, TIME_TEXT, UNIT_TEXT, NAME_TEXT, OTHER_TEXT, upper, place_in, reserved_words, other_words, is_name, is_number, is_negative, is_quoted, is_word, unit_words, word_kind, number_kind, text_kind, sign_kind}
 use Rattle.tt_sql.specs.Parts.{is_unit_text}
-use Rattle.tt_sql.specs.QueryWords.{IsMoment}
-use Rattle.tt_sql.specs.PrintedSpelling.{IsNameText}
+use Rattle.tt_sql.specs.PrintedLiterals.{IsMoment}
+use Rattle.tt_sql.specs.PrintedLiterals.{IsNameText}
 use Rattle.tt_sql.specs.LexemeFacts.{IsLexeme, only, of_lexeme, word_below, number_below, sign_above}
 
 -- ---- kinds

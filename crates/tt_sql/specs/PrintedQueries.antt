@@ -15,7 +15,7 @@ use Rattle.tt_sql.specs.declared.query.Selection.TheVariants as selection
 use Rattle.tt_sql.specs.declared.query.Source.{Source}
 use Rattle.tt_sql.specs.Given.{Each}
 use Rattle.tt_sql.specs.QueryGiven.{IsListed, WhenThere}
-use Rattle.tt_sql.specs.QueryWords.{IsMoment}
+use Rattle.tt_sql.specs.PrintedLiterals.{IsMoment}
 use Rattle.tt_sql.specs.PrintedTrees.{IsWrittenColumn, IsWrittenTable, IsWrittenNumber, IsWrittenQuoted, IsWrittenExpr, IsWrittenPredicate}
 
 abbrev pub IsWrittenItem : ℕ → Item → Type 0

@@ -24,7 +24,7 @@ use Rattle.tt_value.specs.declared.predicate.Unit.{Unit as Test, out-Unit}
 use Rattle.tt_value.specs.declared.predicate.Unit.TheOpen.{Unit-F}
 use Rattle.tt_sql.specs.Given.{Each}
 use Rattle.tt_sql.specs.QueryGiven.{IsListed}
-use Rattle.tt_sql.specs.PrintedSpelling.{IsNameText}
+use Rattle.tt_sql.specs.PrintedLiterals.{IsNameText}
 use Rattle.tt_sql.specs.PrintedLiterals.{IsWrittenText, IsWrittenValue}
 
 -- ---- names, numbers and literals

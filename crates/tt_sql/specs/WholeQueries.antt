@@ -21,7 +21,7 @@ use Rattle.tt_sql.specs.Given.{Each}
 use Rattle.tt_sql.specs.QueryGiven.{IsListed, WhenThere}
 use Rattle.tt_sql.specs.PrintedTrees.{IsWrittenColumn, IsWrittenTable, IsWrittenNumber, IsWrittenQuoted, IsWrittenExpr, IsWrittenPredicate}
 use Rattle.tt_sql.specs.PrintedQueries.{IsWrittenItem, IsWrittenSelection, IsShortNumber, IsWrittenMoment, IsWrittenClause, IsWrittenKeyColumn, IsWrittenKey, IsWrittenQuery}
-use Rattle.tt_sql.specs.QueryWords.{IsMoment}
+use Rattle.tt_sql.specs.PrintedLiterals.{IsMoment}
 use Rattle.tt_sql.specs.LexemeTexts.{moment_known}
 use Rattle.tt_sql.specs.LexemeFacts.{only, has_moment}
 use Rattle.tt_sql.specs.Derivation.{Part, word, noted, pair, first, second}

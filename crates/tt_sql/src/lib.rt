@@ -5,8 +5,6 @@ mod carried;
 pub mod change;
 pub mod examples;
 pub mod grammar_laws;
-mod printing;
-pub mod printing_laws;
 pub mod query;
 pub mod statement;
 pub mod table;
@@ -14,7 +12,6 @@ pub mod tree_laws;
 
 pub use carried::built;
 pub use change::{Copy, Delete, Dml, Insert, InsertSource, Set, Tuple, Update};
-pub use printing::print;
 pub use query::{
     Clause, Item, Join, Key, KeyColumn, Moment, Offset, Pair, Query, Selection, Side, Source,
 };

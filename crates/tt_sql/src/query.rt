@@ -78,7 +78,7 @@ pub struct Clause {
 }
 
 /// AT includes what happened at the moment, and BEFORE does not.
-#[derive(Clone, Copy, Debug, PartialEq, Eq)]
+#[derive(Clone, Copy, PartialEq, Eq)]
 pub enum Side {
     At,
     Before,

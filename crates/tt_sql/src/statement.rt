@@ -37,7 +37,7 @@ pub struct Wait {
 }
 
 /// The unit of a wait. Where none is written, seconds are meant.
-#[derive(Clone, Copy, Debug, PartialEq, Eq)]
+#[derive(Clone, Copy, PartialEq, Eq)]
 pub enum TimeUnit {
     Days,
     Hours,
@@ -50,7 +50,7 @@ pub enum TimeUnit {
 /// first token with which no statement goes on, or the text's length where it ends too early. Where only the
 /// limit on open levels is in the way, it is that of the token that would open a level too many, such as a
 /// minus in front of the first token with which no statement goes on.
-#[derive(Clone, Copy, Debug, PartialEq, Eq)]
+#[derive(Clone, Copy, PartialEq, Eq)]
 pub struct Syntax {
     pub place: u32,
 }

@@ -5,7 +5,7 @@ use sqlite_items::Items;
 use tt_value::{Kind, Name, Number, TableName};
 
 /// Permanent is meant where no kind is written. The grammar has no temporary tables yet.
-#[derive(Clone, Copy, Debug, PartialEq, Eq)]
+#[derive(Clone, Copy, PartialEq, Eq)]
 pub enum TableKind {
     Permanent,
     Transient,

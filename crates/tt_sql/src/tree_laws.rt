@@ -20,8 +20,6 @@ ghost use Rattle.tt_sql.specs.declared.statement.Statement.{Statement};
 ghost use Rattle.tt_sql.specs.StatementGiven.{IsGivenStatement};
 ghost use Rattle.tt_sql.specs.PrintedStatements.{IsWrittenStatement};
 ghost use Rattle.tt_sql.specs.StatementMarks.{statement_marks};
-ghost use Rattle.tt_sql.specs.PrintedSpelling.{unplaced};
-ghost use Rattle.tt_sql.specs.Unplaced.{unplaced_statement};
 ghost use Rattle.tt_sql.specs.StatementTrees.{statement_tree};
 ghost use Rattle.tt_sql.specs.QueryMarks.{query_marks};
 ghost use Rattle.tt_sql.specs.QueryGiven.{IsGivenQuery};
@@ -79,12 +77,4 @@ pub fn each_text_has_a_statement_or_a_fault()
     ensures one { (text : List ℕ) → ((s : Statement) × IsTextOf text s) ⊎ ((at : ℕ) × HasSyntaxFault text at) }
     ensures statement { (text : List ℕ) (s : Statement) → (statement_of text ≡ Ok s) ↔ IsTextOf text s }
     ensures fault { (text : List ℕ) (at : ℕ) → (statement_of text ≡ Err at) ↔ HasSyntaxFault text at }
-{}
-
-/// A statement without its places notes the same marks without their places. So two statements whose marks are the
-/// same but for places are the same but for places.
-pub fn places_are_apart()
-    ensures marks { (levels : ℕ) (s : Statement) → IsWrittenStatement levels s → statement_marks (unplaced_statement s) ≡ unplaced (statement_marks s) }
-    ensures alike { (i j : ℕ) (s t : Statement) → IsWrittenStatement i s → IsWrittenStatement j t
-        → unplaced (statement_marks s) ≡ unplaced (statement_marks t) → unplaced_statement s ≡ unplaced_statement t }
 {}

@@ -7,7 +7,7 @@ use std::alloc::{AllocError, AllocFailed};
 use tt_sql::Syntax;
 
 /// Why no statement is given.
-#[derive(Clone, Copy, Debug, PartialEq, Eq)]
+#[derive(Clone, Copy, PartialEq, Eq)]
 pub enum ParseError {
     /// The text is no statement.
     Syntax(Syntax),

@@ -11,7 +11,8 @@ use std::process::Abort;
 use std::test::Fail;
 use tt_lex::tokens;
 use tt_parse::{ParseError, parse};
-use tt_sql::{Statement, built, print};
+use tt_print::print;
+use tt_sql::{Statement, built};
 
 /// The statement that a text is, or the place of its fault.
 fn read<R: Abort + AllocGlobal>(rt: &R, text: &str) -> Result<Result<Statement, u32>, Fail> {

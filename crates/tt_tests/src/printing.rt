@@ -5,9 +5,10 @@ use sqlite_items::Items;
 use std::alloc::Global;
 use std::process::Abort;
 use std::test::Fail;
+use tt_print::print;
 use tt_sql::{
     Clause, ClonedTable, Delete, Dml, Item, Join, Moment, Pair, Query, Selection, Side, Source,
-    Statement, TableKind, print,
+    Statement, TableKind,
 };
 use tt_value::{
     ColumnName, Conjunction, Expr, Factor, Literal, Name, Operand, Predicate, TableName, Term,

@@ -1,0 +1,5 @@
+use Rattle.tt_print.proofs.text.Spacing.{behind}
+use Rattle.tt_print.proofs.predicates.write_compare.Goals as goal
+
+pub returns : goal.returns
+returns c = record { ok = behind _ _ _ _ _ c.in_ok-write_operand.ensures.ok (behind _ _ _ _ _ c.in_ok-write_comparison.ensures.ok c.in_ok-write_operand-2.ensures.ok) }

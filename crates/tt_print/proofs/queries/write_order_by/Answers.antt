@@ -1,0 +1,5 @@
+use Rattle.tt_print.proofs.text.Spacing.{behind}
+use Rattle.tt_print.proofs.queries.write_order_by.Goals as goal
+
+pub returns : goal.returns
+returns c = record { ok = behind _ _ _ _ _ c.in_ok-write_word.ensures.ok (behind _ _ _ _ _ c.in_ok-write_word-2.ensures.ok c.in_ok-write_keys.ensures.ok) }

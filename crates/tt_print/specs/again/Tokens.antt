@@ -1,0 +1,45 @@
+-- The tokens of a printed statement are its words, each where it stands in the text.
+use Rattle.std.specs.Prelude.{◌≡◌, ℕ, ◌+◌, if◌then◌else◌, List, [], ◌∷◌, length, Some}
+use Rattle.std.specs.Char.{is_ascii_digit}
+use Rattle.tt_lex.specs.declared.Token.{Token}
+use Rattle.tt_lex.specs.declared.TokenKind.{TokenKind}
+use Rattle.tt_lex.specs.declared.TokenKind.TheVariants as kinds
+use Rattle.tt_lex.specs.Lexis.{Piece, IsPiece, spelling, kind_of, is_word_start, is_quote}
+use Rattle.tt_sql.specs.Grammar.{Lexeme}
+use Rattle.tt_sql.specs.TokenKinds.{lexeme}
+use Rattle.tt_sql.specs.declared.statement.Statement.{Statement}
+use Rattle.tt_print.specs.text.Statements.{statement_words}
+
+-- the kind of a token, by its first byte
+abbrev pub token_kind : List ℕ → TokenKind
+token_kind [] = kinds.Sign
+token_kind (b ∷ bytes) =
+    if is_ascii_digit b then kinds.Number
+    else (if is_word_start b then kinds.Word
+    else (if is_quote b then kinds.Quoted else kinds.Sign))
+
+-- this word is one token of the lexer
+pub record IsToken (word : List ℕ) : Type 0 where
+  pub piece : Piece
+  pub right : IsPiece piece
+  pub text_is : spelling piece ≡ word
+  pub kind : TokenKind
+  pub kind_is : kind_of piece ≡ Some kind
+
+abbrev pub AreTokens : List (List ℕ) → Type 0
+AreTokens [] = Unit {0}
+AreTokens (word ∷ words) = IsToken word × AreTokens words
+
+-- Each of its words is one token: its names are words, and its texts have bytes that a quoted text may have.
+abbrev pub IsWritable : Statement → Type 0
+IsWritable statement = AreTokens (statement_words statement)
+
+-- words one behind another with a blank between any two, the first of them at this place
+abbrev pub tokens_at : ℕ → List (List ℕ) → List Token
+tokens_at at [] = []
+tokens_at at (word ∷ words) = record { start = at; «end» = at + length word; kind = token_kind word } ∷ tokens_at (at + length word + 1) words
+
+-- the same as the grammar sees them
+abbrev pub lexemes_at : ℕ → List (List ℕ) → List Lexeme
+lexemes_at at [] = []
+lexemes_at at (word ∷ words) = lexeme (token_kind word) word at ∷ lexemes_at (at + length word + 1) words

@@ -1,0 +1,3 @@
+-- Marks and trees without their places.
+pub mod Marks
+pub mod Trees

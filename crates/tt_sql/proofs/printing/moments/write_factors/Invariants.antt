@@ -1,8 +1,0 @@
-use Rattle.std.proofs.Common.{◌≡◌, ◌++◌, ◌∷◌, take}
-use Rattle.std.specs.Prelude.{codes}
-use Rattle.std.specs.List.{flat_map}
-use Rattle.tt_sql.specs.Words.{spaced, number_words}
-use Rattle.tt_sql.proofs.printing.moments.write_factors.Given as goal
-
-abbrev pub invariant-loop-factor : goal.invariant-loop-factor
-invariant-loop-factor l = l.out.items ≡ l.initial.out.items ++ flat_map (λ factor. spaced (codes "*" ∷ number_words factor)) (take l.factor-index l.others)

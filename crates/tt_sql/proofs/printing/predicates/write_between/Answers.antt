@@ -1,5 +1,0 @@
-use Rattle.tt_sql.proofs.Spacing.{behind}
-use Rattle.tt_sql.proofs.printing.predicates.write_between.Goals as goal
-
-pub returns : goal.returns
-returns c = record { ok = behind _ _ _ _ _ c.in_ok-write_operand.ensures.ok (behind _ _ _ _ _ c.in_ok-write_if.ensures.ok (behind _ _ _ _ _ c.in_ok-write_word.ensures.ok (behind _ _ _ _ _ c.in_ok-write_literal.ensures.ok (behind _ _ _ _ _ c.in_ok-write_word-2.ensures.ok c.in_ok-write_literal-2.ensures.ok)))) }

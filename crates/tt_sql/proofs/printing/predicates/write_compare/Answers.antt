@@ -1,5 +1,0 @@
-use Rattle.tt_sql.proofs.Spacing.{behind}
-use Rattle.tt_sql.proofs.printing.predicates.write_compare.Goals as goal
-
-pub returns : goal.returns
-returns c = record { ok = behind _ _ _ _ _ c.in_ok-write_operand.ensures.ok (behind _ _ _ _ _ c.in_ok-write_comparison.ensures.ok c.in_ok-write_operand-2.ensures.ok) }

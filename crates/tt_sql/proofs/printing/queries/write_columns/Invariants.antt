@@ -1,8 +1,0 @@
-use Rattle.std.proofs.Common.{◌≡◌, ◌++◌, ◌∷◌, take}
-use Rattle.std.specs.Prelude.{codes}
-use Rattle.std.specs.List.{flat_map}
-use Rattle.tt_sql.specs.Words.{spaced, column_name_words}
-use Rattle.tt_sql.proofs.printing.queries.write_columns.Given as goal
-
-abbrev pub invariant-loop-column : goal.invariant-loop-column
-invariant-loop-column l = l.out.items ≡ l.initial.out.items ++ flat_map (λ column. spaced (codes "," ∷ column_name_words column)) (take l.column-index l.others)

@@ -1,5 +1,0 @@
-use Rattle.tt_sql.proofs.Spacing.{behind}
-use Rattle.tt_sql.proofs.printing.tables.write_options.Goals as goal
-
-pub returns : goal.returns
-returns c = record { ok = behind _ _ _ _ _ c.in_ok-write_cluster_if.ensures.ok c.in_ok-write_retention_if.ensures.ok }

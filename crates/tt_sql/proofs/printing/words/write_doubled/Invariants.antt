@@ -1,6 +1,0 @@
-use Rattle.std.proofs.Common.{◌≡◌, ◌++◌, take}
-use Rattle.tt_value.specs.RowText.{quotes_doubled}
-use Rattle.tt_sql.proofs.printing.words.write_doubled.Given as goal
-
-abbrev pub invariant-loop-byte : goal.invariant-loop-byte
-invariant-loop-byte l = l.out.items ≡ l.initial.out.items ++ quotes_doubled (take l.byte-index l.bytes)

@@ -1,5 +1,0 @@
-use Rattle.tt_sql.proofs.Spacing.{behind}
-use Rattle.tt_sql.proofs.printing.write_metrics.Goals as goal
-
-pub returns : goal.returns
-returns c = record { ok = behind _ _ _ _ _ c.in_ok-write_word.ensures.ok (behind _ _ _ _ _ c.in_ok-write_word-2.ensures.ok (behind _ _ _ _ _ c.in_ok-write_word-3.ensures.ok (behind _ _ _ _ _ c.in_ok-write_word-4.ensures.ok (behind _ _ _ _ _ c.in_ok-write_word-5.ensures.ok c.in_ok-write_word-6.ensures.ok)))) }

@@ -1,5 +1,0 @@
-use Rattle.tt_sql.proofs.PrintedAgain.{read_again, text_again}
-use Rattle.tt_sql.proofs.printing_laws.printed_texts_are_read_again.Goals as goal
-
-pub returns : goal.returns
-returns c = record { written = read_again; text = text_again }
