@@ -23,7 +23,7 @@ use tt_state::Catalog;
 const LONGEST_INPUT: u32 = 67_108_864;
 
 /// How the call went. A place is a byte offset in the input.
-#[derive(Clone, Copy, Debug, PartialEq, Eq)]
+#[derive(Clone, Copy, PartialEq, Eq)]
 pub enum Status {
     Ok,
     BadWords,

@@ -1,3 +1,5 @@
+//! The lines of entries and replies.
+
 ghost use Rattle.std.specs.Prelude.{All, IfOk};
 ghost use Rattle.tt_value.specs.RowText.{IsPrintable};
 
