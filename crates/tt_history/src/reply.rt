@@ -1,7 +1,7 @@
 //! What statements answer, why they are refused, and rows that several owners share.
 
 ghost use Rattle.std.specs.Prelude.{◌≡◌, All, IfOk};
-ghost use Rattle.tt_value.specs.RowText.{IsPrintable};
+ghost use Rattle.tt_value.specs.values.RowText.{IsPrintable};
 
 use std::alloc::{AllocError, Global};
 use std::marker::Model;
@@ -66,7 +66,7 @@ impl Model for SharedBag {
     ghost use Rattle.std.specs.Prelude.{List};
     ghost use Rattle.std.specs.Arc.{arc_value};
     ghost use Rattle.tt_value.specs.declared.value.Row.{Row};
-    ghost use Rattle.tt_value.specs.RowText.{IsPrintable};
+    ghost use Rattle.tt_value.specs.values.RowText.{IsPrintable};
     ghost use Rattle.std.specs.Prelude.{All};
 
     ghost Value = { List Row };

@@ -5,9 +5,9 @@ use Rattle.std.specs.List.{list_any, list_all}
 use Rattle.std.specs.Int.{w8}
 use Rattle.std.proofs.lemmas.Bool.Decides.{nat_tests}
 use Rattle.tt_value.specs.declared.value.Kind.{Kind}
-use Rattle.tt_value.specs.Packing.{joined, digits, width_of, bytes_for}
-use Rattle.tt_value.specs.ColumnReading.{◌>>=◌, checked, number_at, packed_at}
-use Rattle.tt_value.proofs.PackingLaws.{width_le}
+use Rattle.tt_value.specs.columns.Packing.{joined, digits, width_of, bytes_for}
+use Rattle.tt_value.specs.columns.Reading.{◌>>=◌, checked, number_at, packed_at}
+use Rattle.tt_value.proofs.columns.Packing.{width_le}
 use Rattle.tt_intcol.specs.IntBody.{greatest_of}
 use Rattle.tt_intcol.specs.IntReading.{value_at, frame_at, is_frame, is_within}
 

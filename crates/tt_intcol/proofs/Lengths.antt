@@ -7,9 +7,9 @@ use Rattle.std.proofs.lemmas.List.{length-map, nil_from_length}
 use Rattle.std.proofs.lemmas.Bool.{eqb-true}
 use Rattle.tt_value.specs.declared.value.Kind.{Kind}
 use Rattle.tt_value.specs.declared.value.Kind.TheVariants.{Int, Date, Varchar}
-use Rattle.tt_value.specs.Packing.{bytes_for, packed, width_of}
-use Rattle.tt_value.specs.ColumnBody.{word, run_bytes, runs_of, distinct, index_in}
-use Rattle.tt_value.proofs.PackingLaws.{length-packed}
+use Rattle.tt_value.specs.columns.Packing.{bytes_for, packed, width_of}
+use Rattle.tt_value.specs.columns.Body.{word, run_bytes, runs_of, distinct, index_in}
+use Rattle.tt_value.proofs.columns.Packing.{length-packed}
 use Rattle.tt_intcol.specs.declared.encoding.Encoding.{Encoding}
 use Rattle.tt_intcol.specs.declared.encoding.Encoding.TheVariants.{Plain, Frame, Run, Dictionary}
 use Rattle.tt_intcol.specs.declared.choice.Length.{Length}

@@ -13,12 +13,12 @@ use Rattle.std.proofs.lemmas.List.{append-nil, length-map}
 use Rattle.std.proofs.lemmas.Map.Lookups.{exact_signed}
 use Rattle.tt_value.specs.declared.value.Kind.{Kind}
 use Rattle.tt_value.specs.declared.value.Kind.TheVariants.{Int, Date, Varchar}
-use Rattle.tt_value.specs.Packing.{packed, width_of}
-use Rattle.tt_value.specs.ColumnBody.{present, bitmap_of}
-use Rattle.tt_value.specs.ColumnReading.{checked, number_at, packed_at}
-use Rattle.tt_value.proofs.PackingLaws.{Fit, width_holds}
-use Rattle.tt_value.proofs.Indexes.{at_most_greatest, present_le}
-use Rattle.tt_value.proofs.Again.{word_again, long_again, packed_again, values_again, run_values_again, dictionary_values_again, flags_again, present_count_again, spread_again}
+use Rattle.tt_value.specs.columns.Packing.{packed, width_of}
+use Rattle.tt_value.specs.columns.Body.{present, bitmap_of}
+use Rattle.tt_value.specs.columns.Reading.{checked, number_at, packed_at}
+use Rattle.tt_value.proofs.columns.Packing.{Fit, width_holds}
+use Rattle.tt_value.proofs.columns.Indexes.{at_most_greatest, present_le}
+use Rattle.tt_value.proofs.columns.Again.{word_again, long_again, packed_again, values_again, run_values_again, dictionary_values_again, flags_again, present_count_again, spread_again}
 use Rattle.tt_intcol.proofs.FrameLaws.{frame_read}
 use Rattle.tt_intcol.specs.declared.encoding.Encoding.{Encoding}
 use Rattle.tt_intcol.specs.declared.encoding.Encoding.TheVariants.{Plain, Frame, Run, Dictionary}

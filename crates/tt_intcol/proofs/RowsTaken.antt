@@ -12,11 +12,11 @@ use Rattle.std.proofs.lemmas.List.{append-nil, length-map}
 use Rattle.std.proofs.lemmas.Map.Lookups.{exact_signed}
 use Rattle.tt_value.specs.declared.value.Kind.{Kind}
 use Rattle.tt_value.specs.declared.value.Kind.TheVariants.{Int, Date, Varchar}
-use Rattle.tt_value.specs.Packing.{packed, width_of}
-use Rattle.tt_value.specs.ColumnBody.{word, present, has_null, bitmap_of}
-use Rattle.tt_value.specs.ColumnReading.{◌>>=◌, checked, number_at, packed_at, ended, flags_at, present_count, spread}
-use Rattle.tt_value.proofs.PackingLaws.{Fit}
-use Rattle.tt_value.proofs.Accepted.{same_ok, bound, held, enough, fit_rest, word_taken, long_taken, packed_taken, ended_taken, values_taken, run_values_taken, dictionary_values_taken, rows_taken}
+use Rattle.tt_value.specs.columns.Packing.{packed, width_of}
+use Rattle.tt_value.specs.columns.Body.{word, present, has_null, bitmap_of}
+use Rattle.tt_value.specs.columns.Reading.{◌>>=◌, checked, number_at, packed_at, ended, flags_at, present_count, spread}
+use Rattle.tt_value.proofs.columns.Packing.{Fit}
+use Rattle.tt_value.proofs.columns.Accepted.{same_ok, bound, held, enough, fit_rest, word_taken, long_taken, packed_taken, ended_taken, values_taken, run_values_taken, dictionary_values_taken, rows_taken}
 use Rattle.tt_intcol.proofs.RowsAgain.{low_bytes, day_mod, fits_all}
 use Rattle.tt_intcol.specs.declared.encoding.Encoding.{Encoding}
 use Rattle.tt_intcol.specs.declared.encoding.Encoding.TheVariants.{Plain, Frame, Run, Dictionary}

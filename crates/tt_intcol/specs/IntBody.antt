@@ -5,8 +5,8 @@ use Rattle.std.specs.Int.RustNames.{unsigned_abs, FitsSigned}
 use Rattle.std.specs.Ordering.{int_cmp}
 use Rattle.tt_value.specs.declared.value.Kind.{Kind}
 use Rattle.tt_value.specs.declared.value.Kind.TheVariants.{Date}
-use Rattle.tt_value.specs.Packing.{packed, width_of}
-use Rattle.tt_value.specs.ColumnBody.{plain_body, run_body, dictionary_body, present, has_null, bitmap_of}
+use Rattle.tt_value.specs.columns.Packing.{packed, width_of}
+use Rattle.tt_value.specs.columns.Body.{plain_body, run_body, dictionary_body, present, has_null, bitmap_of}
 use Rattle.tt_intcol.specs.declared.encoding.Encoding.{Encoding}
 use Rattle.tt_intcol.specs.declared.encoding.Encoding.TheVariants.{Plain, Frame, Run, Dictionary}
 use Rattle.tt_intcol.specs.declared.column.IntColumn.{IntColumn}

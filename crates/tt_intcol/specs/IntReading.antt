@@ -6,8 +6,8 @@ use Rattle.std.specs.Int.RustNames.{int_le}
 use Rattle.std.specs.Ordering.{int_cmp}
 use Rattle.tt_value.specs.declared.value.Kind.{Kind}
 use Rattle.tt_value.specs.declared.value.Kind.TheVariants.{Date}
-use Rattle.tt_value.specs.Packing.{width_of}
-use Rattle.tt_value.specs.ColumnReading.{◌>>=◌, checked, number_at, packed_at, values_at, run_values_at, dictionary_values_at, ended, flags_at, present_count, spread}
+use Rattle.tt_value.specs.columns.Packing.{width_of}
+use Rattle.tt_value.specs.columns.Reading.{◌>>=◌, checked, number_at, packed_at, values_at, run_values_at, dictionary_values_at, ended, flags_at, present_count, spread}
 use Rattle.tt_intcol.specs.declared.encoding.Encoding.{Encoding}
 use Rattle.tt_intcol.specs.declared.encoding.Encoding.TheVariants.{Plain, Frame, Run, Dictionary}
 use Rattle.tt_intcol.specs.declared.column.IntColumn.{IntColumn}

@@ -3,7 +3,7 @@
 ghost use Rattle.std.specs.Prelude.{◌≡◌, ◌+◌, ◌-◌, ◌*◌, ◌^◌, ◌<◌, ◌≤◌, ◌++◌, length, map, IfOk, OnOk, List};
 ghost use Rattle.std.specs.List.{flat_map};
 ghost use Rattle.std.specs.Ordering.{int_cmp};
-ghost use Rattle.tt_value.specs.ColumnBody.{plain_body, run_body, run_bytes, dictionary_body, runs_of, distinct, index_in};
+ghost use Rattle.tt_value.specs.columns.Body.{plain_body, run_body, run_bytes, dictionary_body, runs_of, distinct, index_in};
 ghost use Rattle.tt_intcol.specs.IntBody.{value_bytes, frame_body, body, least_of, height};
 
 use crate::choice::{distinct_values, least, value_size};

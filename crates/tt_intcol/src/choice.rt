@@ -3,8 +3,8 @@
 ghost use Rattle.std.specs.Prelude.{◌≡◌, ◌≢◌, ◌==◌, ◌+◌, ◌-◌, ◌*◌, ◌%◌, ◌^◌, ◌<◌, ◌≤◌, nat_lt, if◌then◌else◌, length, map, IfOk, List};
 ghost use Rattle.std.specs.Ordering.{int_cmp};
 ghost use Rattle.std.specs.Int.{int_min, w64, cast_unsigned};
-ghost use Rattle.tt_value.specs.ColumnBody.{runs_of, distinct, index_in};
-ghost use Rattle.tt_value.specs.Packing.{bytes_for, width_of};
+ghost use Rattle.tt_value.specs.columns.Body.{runs_of, distinct, index_in};
+ghost use Rattle.tt_value.specs.columns.Packing.{bytes_for, width_of};
 ghost use Rattle.tt_intcol.specs.IntNumber.{number_in};
 ghost use Rattle.tt_intcol.specs.IntBody.{value_size as size_of, value_bytes, body, code, encoding_of, least_of, height, greatest_of};
 

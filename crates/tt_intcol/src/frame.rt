@@ -3,7 +3,7 @@
 ghost use Rattle.std.specs.Prelude.{◌≡◌, ◌+◌, ◌-◌, ◌*◌, ◌^◌, ◌<◌, ◌≤◌, ◌==◌, ◌&&◌, nat_lt, if◌then◌else◌, true, false, length, map, pos, ◌+ℤ◌, IfOk, MatchOption};
 ghost use Rattle.std.specs.List.{list_any, list_all};
 ghost use Rattle.std.specs.Int.RustNames.{int_le};
-ghost use Rattle.tt_value.specs.Packing.{bytes_for, width_of};
+ghost use Rattle.tt_value.specs.columns.Packing.{bytes_for, width_of};
 ghost use Rattle.tt_intcol.specs.IntBody.{greatest_of};
 ghost use Rattle.tt_intcol.specs.IntReading.{Gives, frame_at, top_of as top_value, is_within, is_frame};
 

@@ -2,7 +2,7 @@
 
 ghost use Rattle.std.specs.Prelude.{◌≡◌, ◌+◌, ◌-◌, ◌^◌, ◌<◌, ◌≤◌, length, All, Ok, Err};
 ghost use Rattle.std.specs.Int.{w8, w32, w64};
-ghost use Rattle.tt_value.specs.ColumnReading.{number_at, packed_at, count_at};
+ghost use Rattle.tt_value.specs.columns.Reading.{number_at, packed_at, count_at};
 ghost use Rattle.tt_intcol.specs.IntReading.{Gives, value_at, int_at, date_at, is_day as day_test};
 
 use crate::column::{BadColumn, DecodeError};
@@ -119,7 +119,7 @@ pub fn read_value(kind: Kind, end: u64, bytes: &[u8]) -> Result<(i64, &[u8]), De
 }
 
 /// A number of runs or of distinct values.
-#[tactic(auto, unfolding(tt_value::specs::ColumnReading::count_at))]
+#[tactic(auto, unfolding(tt_value::specs::columns::Reading::count_at))]
 pub fn read_count(end: u64, most: usize, bytes: &[u8]) -> Result<(u32, &[u8]), DecodeError>
     ensures { Gives (λ x. (x.0, x.1.now)) result (count_at end most bytes.now) }
 {

@@ -5,8 +5,8 @@ ghost use Rattle.std.specs.Ordering.{int_cmp};
 ghost use Rattle.std.specs.Prelude.{not, None};
 ghost use Rattle.std.specs.List.{list_all};
 ghost use Rattle.std.specs.Option.{option_map};
-ghost use Rattle.tt_value.specs.Packing.{bytes_for};
-ghost use Rattle.tt_value.specs.ColumnReading.{is_new, is_next, uses_each, values_of, looked_up, dictionary_values_at, packed_at, values_at, run_at, runs_at, run_values_at, entry_at, entries_at};
+ghost use Rattle.tt_value.specs.columns.Packing.{bytes_for};
+ghost use Rattle.tt_value.specs.columns.Reading.{is_new, is_next, uses_each, values_of, looked_up, dictionary_values_at, packed_at, values_at, run_at, runs_at, run_values_at, entry_at, entries_at};
 ghost use Rattle.tt_intcol.specs.IntReading.{Gives, value_at};
 
 use crate::column::DecodeError;
@@ -23,7 +23,7 @@ pub fn packed_size(count: usize, width: u32) -> u128
 }
 
 /// Packed numbers.
-#[tactic(auto, unfolding(tt_value::specs::ColumnReading::packed_at))]
+#[tactic(auto, unfolding(tt_value::specs::columns::Reading::packed_at))]
 pub fn read_packed(
     alloc: Global,
     end: u64,
@@ -72,7 +72,7 @@ fn is_same_as(before: Option<i64>, value: i64) -> bool
 }
 
 /// A run, behind that of another value; its length is at most what is left.
-#[tactic(auto, unfolding(tt_value::specs::ColumnReading::run_at))]
+#[tactic(auto, unfolding(tt_value::specs::columns::Reading::run_at))]
 fn read_run(
     kind: Kind,
     end: u64,
@@ -131,7 +131,7 @@ fn read_runs(
 }
 
 /// The values of a run body, of so many values.
-#[tactic(auto, unfolding(tt_value::specs::ColumnReading::run_values_at))]
+#[tactic(auto, unfolding(tt_value::specs::columns::Reading::run_values_at))]
 pub fn read_run_values(
     alloc: Global,
     kind: Kind,
@@ -155,7 +155,7 @@ fn is_below(before: Option<i64>, value: i64) -> bool
 }
 
 /// A distinct value, above the one before.
-#[tactic(auto, unfolding(tt_value::specs::ColumnReading::entry_at))]
+#[tactic(auto, unfolding(tt_value::specs::columns::Reading::entry_at))]
 fn read_entry(
     kind: Kind,
     end: u64,
@@ -232,7 +232,7 @@ fn values_at_indexes(
 }
 
 /// The values that a dictionary and indexes stand for.
-#[tactic(auto, unfolding(tt_value::specs::ColumnReading::looked_up))]
+#[tactic(auto, unfolding(tt_value::specs::columns::Reading::looked_up))]
 fn look_up(
     alloc: Global,
     place: u64,
@@ -253,7 +253,7 @@ fn look_up(
 }
 
 /// The values of a dictionary body, of so many values.
-#[tactic(auto, unfolding(tt_value::specs::ColumnReading::dictionary_values_at))]
+#[tactic(auto, unfolding(tt_value::specs::columns::Reading::dictionary_values_at))]
 pub fn read_dictionary_values(
     alloc: Global,
     kind: Kind,

@@ -2,9 +2,9 @@
 
 ghost use Rattle.std.specs.Prelude.{◌≡◌, ◌≢◌, ◌+◌, ◌-◌, ◌*◌, ◌^◌, ◌<◌, ◌≤◌, ◌==◌, List, ◌∷◌, length, count_by, ℕ, ℤ, Option, Ok, IfOk, All};
 ghost use Rattle.std.specs.List.{list_any};
-ghost use Rattle.tt_value.specs.ColumnReading.{flags_at, has_flag, present_count, spread};
+ghost use Rattle.tt_value.specs.columns.Reading.{flags_at, has_flag, present_count, spread};
 ghost use Rattle.std.specs.List.{AllByRecursion};
-ghost use Rattle.tt_value.specs.ColumnBody.{present};
+ghost use Rattle.tt_value.specs.columns.Body.{present};
 ghost use Rattle.tt_intcol.specs.IntBody.{encoding_of, column_of, IsValue};
 ghost use Rattle.tt_intcol.specs.IntReading.{Gives, encoding_at, body_at, values_in, rows_of};
 
@@ -36,7 +36,7 @@ fn has_flag(flags: &[u64]) -> bool
 }
 
 /// The flags of a bitmap: 1 for NULL.
-#[tactic(auto, unfolding(tt_value::specs::ColumnReading::flags_at))]
+#[tactic(auto, unfolding(tt_value::specs::columns::Reading::flags_at))]
 fn read_flags(alloc: Global, rows: u32, nulls: bool, bitmap: &[u8]) -> Result<Vec<u64>, DecodeError>
     ensures { Gives (λ v. v.items) result (flags_at rows nulls bitmap.now) }
 {

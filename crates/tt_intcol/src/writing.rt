@@ -1,7 +1,7 @@
 //! Writing a whole column.
 
 ghost use Rattle.std.specs.Prelude.{◌≡◌, ◌≢◌, ◌^◌, ◌<◌, length, map, All, IfOk};
-ghost use Rattle.tt_value.specs.ColumnBody.{null_flag as flag_of, null_flags, has_null as null_test, present as values_of, bitmap_of};
+ghost use Rattle.tt_value.specs.columns.Body.{null_flag as flag_of, null_flags, has_null as null_test, present as values_of, bitmap_of};
 ghost use Rattle.tt_intcol.specs.IntBody.{column_of, IsDay};
 
 use crate::bodies::body_of;

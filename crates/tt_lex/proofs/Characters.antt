@@ -11,7 +11,7 @@ use Rattle.std.proofs.lemmas.List.Elements.{All-from_recursion}
 use Rattle.tt_lex.specs.declared.Token.{Token}
 use Rattle.tt_lex.specs.declared.TokenKind.{TokenKind}
 use Rattle.tt_lex.specs.Lexis.{Piece, Blank, LineComment, BlockComment, Word, Number, Quoted, Sign, is_word_start, is_word_part, is_sign, doubled, spelling, spelled, IsPiece, ArePieces, kind_of, with_token, tokens_from, HasTokens, IsBetweenCharacters}
-use Rattle.tt_lex.specs.FrontLaws.{spelling_some}
+use Rattle.tt_lex.specs.answer.Fronts.{spelling_some}
 use Rattle.tt_lex.proofs.OneWay.{any_byte, any_bytes}
 
 -- the first and the last byte are ASCII

@@ -7,7 +7,7 @@ use Rattle.tt_lex.specs.declared.LexFault.{LexFault}
 use Rattle.tt_lex.specs.declared.TokensError.{TokensError}
 use Rattle.tt_lex.specs.declared.TokensError.TheVariants.{Lex, Memory}
 use Rattle.tt_lex.specs.Lexis.{HasTokens, HasFault, IfFault}
-use Rattle.tt_lex.specs.WholeLaws.{Answer, answer}
+use Rattle.tt_lex.specs.answer.WholeTexts.{Answer, answer}
 use Rattle.tt_lex.specs.TokensOf.{tokens_of, answered, Gives}
 use Rattle.tt_lex.proofs.OneWay.{same_tokens, same_fault, not_both}
 

@@ -1,3 +1,5 @@
 pub mod Characters
 pub mod Function
 pub mod OneWay
+pub mod Places
+pub mod QuotedTexts

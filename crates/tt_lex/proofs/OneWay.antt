@@ -19,7 +19,7 @@ use Rattle.tt_lex.specs.declared.TokensError.{TokensError}
 use Rattle.tt_lex.specs.declared.TokensError.TheVariants.{Lex, Memory}
 use Rattle.std.specs.Global.{Vec}
 use Rattle.std.specs.Prelude.{IfOk}
-use Rattle.tt_lex.specs.FrontLaws.{passes-doubled, spelling_some}
+use Rattle.tt_lex.specs.answer.Fronts.{passes-doubled, spelling_some}
 
 -- ---- what a text begins with, computed
 

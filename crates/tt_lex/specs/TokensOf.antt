@@ -6,7 +6,7 @@ use Rattle.tt_lex.specs.declared.Token.{Token}
 use Rattle.tt_lex.specs.declared.LexFault.{LexFault}
 use Rattle.tt_lex.specs.declared.TokensError.{TokensError}
 use Rattle.tt_lex.specs.declared.TokensError.TheVariants.{Lex, Memory}
-use Rattle.tt_lex.specs.WholeLaws.{Answer, answer}
+use Rattle.tt_lex.specs.answer.WholeTexts.{Answer, answer}
 
 abbrev pub answered : {text : List ℕ} → Answer text → Result (List Token) LexFault
 answered (inl found) = Ok found.0

@@ -7,8 +7,8 @@ use Rattle.std.proofs.lemmas.Bool.Decides.{nat_tests}
 use Rattle.std.proofs.lemmas.List.Elements.{All-cons, All-nil}
 use Rattle.std.proofs.lemmas.Slice.Eq.{bytes_eq-Decides}
 use Rattle.tt_lex.specs.Lexis.{text_of, is_word_start, is_word_part}
-use Rattle.tt_value.specs.CalendarReading.{day_of, timestamp_of}
-use Rattle.tt_value.specs.TextValue.{IsPrintableAscii}
+use Rattle.tt_value.specs.calendar.Reading.{day_of, timestamp_of}
+use Rattle.tt_value.specs.values.Texts.{IsPrintableAscii}
 use Rattle.tt_value.specs.declared.name.Quoted.{Quoted}
 use Rattle.tt_sql.specs.Grammar.{Said, Lexeme, Note, is_of}
 use Rattle.tt_sql.specs.FrontLaws.{false≢true, and_join, or_split}

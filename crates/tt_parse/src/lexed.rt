@@ -5,7 +5,7 @@ ghost use Rattle.std.specs.List.{list_all};
 ghost use Rattle.std.specs.Char.{is_ascii_digit};
 ghost use Rattle.std.specs.Str.{IsUtf8};
 ghost use Rattle.tt_lex.specs.Lexis.{is_word_start, is_word_part};
-ghost use Rattle.tt_value.specs.TextValue.{IsText};
+ghost use Rattle.tt_value.specs.values.Texts.{IsText};
 ghost use Rattle.tt_sql.specs.TokenKinds.{is_word as is_word_text, number_kind, text_kind, unquoted as unquoted_bytes};
 ghost use Rattle.tt_terminal.specs.KindNumbers.{kind_number};
 ghost use Rattle.tt_parse.specs.Lexing.{IsToken};

@@ -2,7 +2,7 @@
 use Rattle.std.proofs.Common.{◌≡◌, ℕ, ℤ, Bool, true, false, List, [], ◌∷◌, Some, if◌then◌else◌, refl, sym, ap, ◌∙◌, arith}
 use Rattle.std.specs.Prelude.{is_some}
 use Rattle.tt_lex.specs.Lexis.{text_of}
-use Rattle.tt_value.specs.CalendarReading.{timestamp_of}
+use Rattle.tt_value.specs.calendar.Reading.{timestamp_of}
 use Rattle.tt_value.specs.declared.name.Quoted.{Quoted}
 use Rattle.tt_sql.specs.Grammar.{Meant}
 use Rattle.tt_sql.specs.TokenKinds.{DATE_TEXT, TIME_TEXT, UNIT_TEXT, NAME_TEXT, OTHER_TEXT, text_kind, unquoted, lexeme}

@@ -1,7 +1,7 @@
 -- Operands and units of which the parts have been read.
 use Rattle.std.proofs.Common.{◌≡◌, ℕ, suc, Bool, true, false, ◌&&◌, ◌==◌, inl, inr, List, [], ◌∷◌, ◌++◌, length, Result, Ok, Err, refl, sym, ap, ◌∙◌, append_assoc, subst, true≢false}
 use Rattle.std.specs.Result.{IsErrAnd}
-use Rattle.tt_value.specs.Calendar.{day_text}
+use Rattle.tt_value.specs.calendar.Calendar.{day_text}
 use Rattle.tt_value.specs.declared.name.Literal.{Literal}
 use Rattle.tt_value.specs.declared.name.Name.{Name}
 use Rattle.tt_sql.specs.Grammar.{Lexeme, Mark, Way, Said, Gram, Both, is_of}

@@ -1,8 +1,8 @@
 -- The parts of a factor as they are read.
 use Rattle.std.specs.Prelude.{◌≡◌, ℕ, ℤ, false, ◌==◌, ◌⊎◌, [], ◌∷◌}
 use Rattle.tt_value.specs.declared.name.Literal.{Literal}
-use Rattle.tt_value.specs.Calendar.{day_text}
-use Rattle.tt_value.specs.RowText.{IsPrintableValue}
+use Rattle.tt_value.specs.calendar.Calendar.{day_text}
+use Rattle.tt_value.specs.values.RowText.{IsPrintableValue}
 use Rattle.tt_sql.specs.Grammar.{Gram, Way, Said, Deep, Note, Again, Expr, Negated, is_of}
 use Rattle.tt_sql.specs.Checks.{nowhere}
 use Rattle.tt_sql.specs.TokenKinds.{NULL, DATE, DATE_TEXT, NAME, OTHER_TEXT, OPEN, CLOSE, MINUS, is_name, is_quoted}

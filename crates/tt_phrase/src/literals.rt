@@ -2,7 +2,7 @@
 
 ghost use Rattle.std.specs.Prelude.{map, IfOk};
 ghost use Rattle.tt_sql.specs.QueryGiven.{IsListed};
-ghost use Rattle.tt_value.specs.RowText.{IsPrintableValue};
+ghost use Rattle.tt_value.specs.values.RowText.{IsPrintableValue};
 ghost use Rattle.tt_sql.specs.Marks.{listed_marks, literal_marks};
 ghost use Rattle.tt_sql.specs.Parts.{listed};
 ghost use Rattle.tt_sql.specs.Written.{literal as literal_part};

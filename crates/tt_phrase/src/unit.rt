@@ -4,7 +4,7 @@ ghost use Rattle.std.specs.Prelude.{◌≡◌, false, true, [], ◌∷◌, ◌++
 ghost use Rattle.tt_sql.specs.Checks.{nowhere};
 ghost use Rattle.tt_sql.specs.Given.{AreGiven, IsGivenUnit, operand_leaves};
 ghost use Rattle.tt_sql.specs.QueryGiven.{IsListed};
-ghost use Rattle.tt_value.specs.RowText.{IsPrintableValue};
+ghost use Rattle.tt_value.specs.values.RowText.{IsPrintableValue};
 ghost use Rattle.tt_sql.specs.Marks.{comparison_marks, flag_marks, listed_marks, literal_marks, operand_marks, unit_marks};
 ghost use Rattle.tt_sql.specs.Parts.{brackets, listed, name as name_part, one, quoted, way, ◌▸◌};
 ghost use Rattle.tt_sql.specs.Read.{in_or_between, read_operand, read_simple, unit_end};

@@ -17,9 +17,9 @@ use Rattle.tt_value.specs.declared.value.Schema.{Schema}
 use Rattle.tt_value.specs.declared.value.Row.{Row}
 use Rattle.tt_value.specs.declared.name.Name.{Name}
 use Rattle.tt_value.specs.declared.name.Literal.{Literal}
-use Rattle.tt_value.specs.Scope.{beside, date_or_null, value_or_null}
-use Rattle.tt_value.specs.CalendarReading.{day_of}
-use Rattle.tt_value.specs.PredicateMeaning.{is_null}
+use Rattle.tt_value.specs.trees.Scope.{beside, date_or_null, value_or_null}
+use Rattle.tt_value.specs.calendar.Reading.{day_of}
+use Rattle.tt_value.specs.trees.Predicates.{is_null}
 use Rattle.tt_sql.specs.declared.change.Insert.{Insert}
 use Rattle.tt_sql.specs.declared.change.InsertSource.{InsertSource}
 use Rattle.tt_sql.specs.declared.change.InsertSource.TheVariants as source

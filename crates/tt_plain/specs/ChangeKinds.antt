@@ -7,7 +7,7 @@ use Rattle.tt_value.specs.declared.value.Schema.{Schema}
 use Rattle.tt_value.specs.declared.value.Row.{Row}
 use Rattle.tt_value.specs.declared.name.Name.{Name}
 use Rattle.tt_value.specs.declared.name.TableName.{TableName}
-use Rattle.tt_value.specs.ExpressionMeaning.{value_of}
+use Rattle.tt_value.specs.trees.Expressions.{value_of}
 use Rattle.tt_sql.specs.declared.change.Dml.{Dml}
 use Rattle.tt_sql.specs.declared.change.Dml.TheVariants as dml
 use Rattle.tt_sql.specs.declared.change.InsertSource.{InsertSource}

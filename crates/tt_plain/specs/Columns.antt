@@ -3,7 +3,7 @@ use Rattle.std.specs.Prelude.{ℕ, List, Option, Some, None, slice_get, option_a
 use Rattle.tt_value.specs.declared.value.Column.{Column}
 use Rattle.tt_value.specs.declared.value.Schema.{Schema}
 use Rattle.tt_value.specs.declared.name.Name.{Name}
-use Rattle.tt_value.specs.Scope.{column_place}
+use Rattle.tt_value.specs.trees.Scope.{column_place}
 
 -- the column of this name
 abbrev pub column_named : Schema → Name → Option Column

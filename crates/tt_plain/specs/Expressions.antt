@@ -9,7 +9,7 @@ use Rattle.tt_value.specs.declared.expression.Factor.{Factor}
 use Rattle.tt_value.specs.declared.expression.Factor.TheVariants as factor
 use Rattle.tt_value.specs.declared.expression.Factor.TheFolds.{fold-Expr, fold-Term, fold-Factor}
 use Rattle.tt_value.specs.declared.expression.Factor.TheOpen.{Expr-F, Addend-F, Term-F, Factor-F}
-use Rattle.tt_value.specs.Scope.{Scope, column_kind, kind_of}
+use Rattle.tt_value.specs.trees.Scope.{Scope, column_kind, kind_of}
 use Rattle.tt_plain.specs.Places.{each, column_begin}
 use Rattle.tt_plain.specs.Kinds.{fits, unless}
 

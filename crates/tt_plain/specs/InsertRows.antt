@@ -1,6 +1,6 @@
 -- INSERT of written rows: they are added to what the table has when the statement ends.
 use Rattle.std.specs.Prelude.{ℕ, ◌-◌, List, [], ◌∷◌, ◌++◌, Option, Some, None, slice_set}
-use Rattle.tt_value.specs.BagRows.{bag_of, bag_plus}
+use Rattle.tt_value.specs.values.Bags.{bag_of, bag_plus}
 use Rattle.tt_value.specs.declared.value.Row.{Row}
 use Rattle.tt_value.specs.declared.value.Schema.{Schema}
 use Rattle.tt_sql.specs.declared.change.Insert.{Insert}

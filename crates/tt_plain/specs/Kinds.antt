@@ -5,8 +5,8 @@ use Rattle.tt_value.specs.declared.value.Kind.TheVariants as kinds
 use Rattle.tt_value.specs.declared.value.Value.{Value}
 use Rattle.tt_value.specs.declared.value.Value.TheVariants as value
 use Rattle.tt_value.specs.declared.name.Literal.{Literal}
-use Rattle.tt_value.specs.Scope.{kind_of}
-use Rattle.tt_value.specs.CalendarReading.{day_of}
+use Rattle.tt_value.specs.trees.Scope.{kind_of}
+use Rattle.tt_value.specs.calendar.Reading.{day_of}
 
 abbrev pub is_same_kind : Kind → Kind → Bool
 is_same_kind kinds.Int kinds.Int = true

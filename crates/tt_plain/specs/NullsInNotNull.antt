@@ -1,7 +1,7 @@
 -- NullInNotNull: a written NULL for a column that takes none, or such a column left out.
 use Rattle.std.specs.Prelude.{ℕ, Bool, false, ◌&&◌, not, if◌then◌else◌, List, [], ◌∷◌, ◌++◌, Option, Some, None}
 use Rattle.std.specs.List.{list_any}
-use Rattle.tt_value.specs.PredicateMeaning.{is_null}
+use Rattle.tt_value.specs.trees.Predicates.{is_null}
 use Rattle.tt_value.specs.declared.value.Column.{Column}
 use Rattle.tt_value.specs.declared.value.Schema.{Schema}
 use Rattle.tt_value.specs.declared.name.Name.{Name}

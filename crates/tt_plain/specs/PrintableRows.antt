@@ -12,10 +12,10 @@ use Rattle.tt_value.specs.declared.value.Column.{Column}
 use Rattle.tt_value.specs.declared.value.Schema.{Schema}
 use Rattle.tt_value.specs.declared.name.Name.{Name}
 use Rattle.tt_value.specs.declared.name.Literal.{Literal}
-use Rattle.tt_value.specs.Scope.{beside, date_or_null, value_or_null}
-use Rattle.tt_value.specs.CalendarReading.{day_of}
-use Rattle.tt_value.specs.CalendarReadingLaws.{day_of-read}
-use Rattle.tt_value.specs.RowText.{IsPrintable, IsPrintableValue}
+use Rattle.tt_value.specs.trees.Scope.{beside, date_or_null, value_or_null}
+use Rattle.tt_value.specs.calendar.Reading.{day_of}
+use Rattle.tt_value.proofs.calendar.Dates.{day_of-read}
+use Rattle.tt_value.specs.values.RowText.{IsPrintable, IsPrintableValue}
 use Rattle.tt_sql.specs.declared.change.Tuple.{Tuple}
 use Rattle.tt_sql.specs.Given.{Each}
 use Rattle.tt_sql.specs.ChangeMeaning.{for_column, given_value, in_order, stored_row, tuple_values}

@@ -5,8 +5,8 @@ use Rattle.tt_value.specs.declared.value.Kind.{Kind}
 use Rattle.tt_value.specs.declared.value.Kind.TheVariants as kinds
 use Rattle.tt_value.specs.declared.value.Row.{Row}
 use Rattle.tt_value.specs.declared.name.ColumnName.{ColumnName}
-use Rattle.tt_value.specs.Scope.{Scope, column_kind, column_value, kind_of}
-use Rattle.tt_value.specs.ExpressionMeaning.{value_of}
+use Rattle.tt_value.specs.trees.Scope.{Scope, column_kind, column_value, kind_of}
+use Rattle.tt_value.specs.trees.Expressions.{value_of}
 use Rattle.tt_sql.specs.declared.query.Query.{Query}
 use Rattle.tt_sql.specs.declared.query.Selection.{Selection}
 use Rattle.tt_sql.specs.declared.query.Selection.TheVariants as selection

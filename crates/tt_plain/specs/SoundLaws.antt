@@ -6,8 +6,8 @@ use Rattle.std.specs.Str.{bytes_eq}
 use Rattle.std.proofs.lemmas.Option.{same_Some, none-some}
 use Rattle.std.proofs.lemmas.List.{length-map, length_push}
 use Rattle.std.proofs.lemmas.List.Sums.{sum_by-cons}
-use Rattle.tt_value.specs.BagRows.{IsBag, bag_of}
-use Rattle.tt_value.specs.BagLaws.{IsBag-bag_plus}
+use Rattle.tt_value.specs.values.Bags.{IsBag, bag_of}
+use Rattle.tt_value.proofs.values.Bags.{IsBag-bag_plus}
 use Rattle.tt_value.specs.declared.value.Row.{Row}
 use Rattle.tt_script.specs.declared.script.Script.{Script}
 use Rattle.tt_script.specs.declared.script.SessionText.{SessionText}

@@ -1,7 +1,7 @@
 -- What holds of every store that a legal history leads to, beside what the store says.
 use Rattle.std.specs.Prelude.{◌≡◌, ℕ, ◌+◌, ◌-◌, ◌*◌, ◌≤◌, ◌<◌, is_some, List, [], ◌∷◌, length, Option, Some, None, if◌then◌else◌, ⊤}
 use Rattle.tt_value.specs.declared.value.Row.{Row}
-use Rattle.tt_value.specs.BagRows.{IsBag}
+use Rattle.tt_value.specs.values.Bags.{IsBag}
 use Rattle.tt_script.specs.declared.script.Script.{Script}
 use Rattle.tt_script.specs.declared.script.SessionText.{SessionText}
 use Rattle.tt_plain.specs.declared.plain.Plain.{Plain}

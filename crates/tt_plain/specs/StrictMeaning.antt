@@ -21,11 +21,11 @@ use Rattle.tt_value.specs.declared.predicate.Comparison.TheVariants.{Equal, Less
 use Rattle.tt_value.specs.declared.predicate.Predicate.{Predicate}
 use Rattle.tt_value.specs.declared.predicate.Unit.TheFolds.{fold-Predicate}
 use Rattle.tt_value.specs.declared.predicate.Unit.TheOpen.{Predicate-F, Conjunction-F, Unit-F}
-use Rattle.tt_value.specs.CalendarReading.{day_of}
-use Rattle.tt_value.specs.Scope.{Scope, kind_of}
-use Rattle.tt_value.specs.ExpressionMeaning.{on_numbers, negated, then_both, add_signed}
-use Rattle.tt_value.specs.PredicateMeaning.{compared, begins, is_null, operand_kind}
-use Rattle.tt_value.specs.Truths.{truth_of_bool, not_truth, and_truth, or_truth, not_if}
+use Rattle.tt_value.specs.calendar.Reading.{day_of}
+use Rattle.tt_value.specs.trees.Scope.{Scope, kind_of}
+use Rattle.tt_value.specs.trees.Expressions.{on_numbers, negated, then_both, add_signed}
+use Rattle.tt_value.specs.trees.Predicates.{compared, begins, is_null, operand_kind}
+use Rattle.tt_value.specs.trees.Truths.{truth_of_bool, not_truth, and_truth, or_truth, not_if}
 use Rattle.tt_plain.specs.Kinds.{fits}
 
 -- given two that are there

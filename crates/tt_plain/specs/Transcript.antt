@@ -3,7 +3,7 @@ use Rattle.std.specs.Prelude.{◌≡◌, ℕ, List, [], ◌∷◌, ◌++◌, len
 use Rattle.std.specs.List.{flat_map, filter_map}
 use Rattle.std.specs.Fmt.{decimal, signed_decimal}
 use Rattle.tt_value.specs.declared.value.Row.{Row}
-use Rattle.tt_value.specs.RowText.{row_text}
+use Rattle.tt_value.specs.values.RowText.{row_text}
 use Rattle.tt_script.specs.declared.script.Script.{Script}
 use Rattle.tt_script.specs.declared.script.SessionText.{SessionText}
 use Rattle.tt_history.specs.declared.history.Entry.{Entry}

@@ -17,8 +17,8 @@ use Rattle.tt_value.specs.declared.predicate.Unit.{Unit}
 use Rattle.tt_value.specs.declared.predicate.Unit.TheFolds.{fold-Predicate, fold-Conjunction, fold-Unit}
 use Rattle.tt_value.specs.declared.predicate.Unit.TheOpen.{Predicate-F, Conjunction-F, Unit-F}
 use Rattle.tt_value.specs.declared.expression.Expr.{Expr}
-use Rattle.tt_value.specs.Scope.{Scope, column_kind}
-use Rattle.tt_value.specs.PredicateMeaning.{operand_kind}
+use Rattle.tt_value.specs.trees.Scope.{Scope, column_kind}
+use Rattle.tt_value.specs.trees.Predicates.{operand_kind}
 use Rattle.tt_sql.specs.declared.query.Query.{Query}
 use Rattle.tt_sql.specs.declared.query.Selection.{Selection}
 use Rattle.tt_sql.specs.declared.query.Selection.TheVariants as selection

@@ -17,7 +17,7 @@ use Rattle.tt_value.specs.declared.expression.Expr.{Expr}
 use Rattle.tt_value.specs.declared.expression.Term.{Term}
 use Rattle.tt_value.specs.declared.expression.Factor.{Factor}
 use Rattle.tt_value.specs.declared.expression.Factor.TheOpen.{Factor-F, Expr-F, Term-F}
-use Rattle.tt_value.specs.Scope.{Scope, column_in}
+use Rattle.tt_value.specs.trees.Scope.{Scope, column_in}
 use Rattle.tt_sql.specs.declared.query.Query.{Query}
 use Rattle.tt_sql.specs.declared.query.Selection.{Selection}
 use Rattle.tt_sql.specs.declared.query.Selection.TheVariants as selection

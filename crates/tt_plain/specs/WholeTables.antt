@@ -6,10 +6,10 @@ use Rattle.std.specs.List.{filter}
 use Rattle.std.proofs.lemmas.Bool.{false≢true}
 use Rattle.std.proofs.lemmas.Bool.Decides.{nat_tests}
 use Rattle.tt_value.specs.declared.value.Row.{Row}
-use Rattle.tt_value.specs.Order.{row_cmp}
-use Rattle.tt_value.specs.BagRows.{IsBag, IsLeast}
-use Rattle.tt_value.specs.Scope.{Scope}
-use Rattle.tt_value.specs.PredicateMeaning.{takes}
+use Rattle.tt_value.specs.values.Order.{row_cmp}
+use Rattle.tt_value.specs.values.Bags.{IsBag, IsLeast}
+use Rattle.tt_value.specs.trees.Scope.{Scope}
+use Rattle.tt_value.specs.trees.Predicates.{takes}
 use Rattle.tt_sql.specs.declared.query.Query.{Query}
 use Rattle.tt_sql.specs.declared.query.Selection.{Selection}
 use Rattle.tt_sql.specs.declared.query.Selection.TheVariants.{All, Listed}

@@ -3,8 +3,8 @@
 
 ghost use Rattle.std.specs.Prelude.{◌≡◌, ◌∷◌, [], ◌++◌, map, OnOk, IsTrue, codes};
 ghost use Rattle.std.specs.Fmt.{decimal};
-ghost use Rattle.tt_value.specs.Calendar.{IsDay};
-ghost use Rattle.tt_value.specs.RowText.{quotes_doubled};
+ghost use Rattle.tt_value.specs.calendar.Calendar.{IsDay};
+ghost use Rattle.tt_value.specs.values.RowText.{quotes_doubled};
 ghost use Rattle.tt_print.specs.text.Words.{spaced, listed, word_if, words_if, name_words, front_words, column_name_words, table_name_words, quoted, quoted_words, number_words, int_words, is_day as day_test, date_bytes, day_word, value_words, literal_words};
 
 use itoa::Buffer;

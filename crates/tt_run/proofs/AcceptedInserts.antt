@@ -14,8 +14,8 @@ use Rattle.tt_value.specs.declared.value.Schema.{Schema}
 use Rattle.tt_value.specs.declared.value.Row.{Row}
 use Rattle.tt_value.specs.declared.name.Name.{Name}
 use Rattle.tt_value.specs.declared.name.Literal.{Literal}
-use Rattle.tt_value.specs.RowText.{IsPrintableValue, IsPrintable}
-use Rattle.tt_value.specs.Scope.{value_or_null}
+use Rattle.tt_value.specs.values.RowText.{IsPrintableValue, IsPrintable}
+use Rattle.tt_value.specs.trees.Scope.{value_or_null}
 use Rattle.tt_sql.specs.declared.change.Insert.{Insert}
 use Rattle.tt_sql.specs.declared.change.InsertSource.TheVariants as source
 use Rattle.tt_sql.specs.declared.change.Tuple.{Tuple}

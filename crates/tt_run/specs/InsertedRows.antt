@@ -7,7 +7,7 @@ use Rattle.tt_value.specs.declared.value.Schema.{Schema}
 use Rattle.tt_value.specs.declared.value.Row.{Row}
 use Rattle.tt_value.specs.declared.name.Name.{Name}
 use Rattle.tt_value.specs.declared.name.Literal.{Literal}
-use Rattle.tt_value.specs.RowText.{IsPrintable}
+use Rattle.tt_value.specs.values.RowText.{IsPrintable}
 use Rattle.tt_sql.specs.declared.change.Insert.{Insert}
 use Rattle.tt_sql.specs.declared.change.Tuple.{Tuple}
 use Rattle.tt_sql.specs.declared.change.Dml.TheVariants as dml

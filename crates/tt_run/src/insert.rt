@@ -4,8 +4,8 @@ ghost use Rattle.std.specs.Prelude.{◌≡◌, All, IfOk, Some, map, length, sli
 ghost use Rattle.std.specs.List.{position};
 ghost use Rattle.std.specs.Str.{bytes_eq};
 ghost use Rattle.tt_value.specs.declared.name.Name.{Name as NameValue};
-ghost use Rattle.tt_value.specs.RowText.{IsPrintable};
-ghost use Rattle.tt_value.specs.Scope.{value_or_null};
+ghost use Rattle.tt_value.specs.values.RowText.{IsPrintable};
+ghost use Rattle.tt_value.specs.trees.Scope.{value_or_null};
 ghost use Rattle.tt_sql.specs.ChangeMeaning.{for_column};
 ghost use Rattle.tt_plain.specs.InsertRows.{added_rows};
 ghost use Rattle.tt_plain.specs.WrongCounts.{width};

@@ -5,7 +5,7 @@ ghost use Rattle.std.specs.Prelude.{◌≡◌, codes, ◌++◌, All, IfOk, OnOk,
 ghost use Rattle.std.specs.Fmt.{decimal, signed_decimal};
 ghost use Rattle.std.specs.List.{flat_map};
 ghost use Rattle.std.specs.Option.{option_copied};
-ghost use Rattle.tt_value.specs.RowText.{IsPrintable};
+ghost use Rattle.tt_value.specs.values.RowText.{IsPrintable};
 ghost use Rattle.tt_plain.specs.Ways.{ends_statement as is_last_entry};
 ghost use Rattle.tt_plain.specs.Transcript.{AreReplies, name_of, actor_text, told_text, gone_text, part_text, added_text, report_text, miss_text, kind_text, journal_line, refusal_text, row_line, reply_text, told_reply, end_line, transcript_of};
 ghost use Rattle.tt_run.specs.AnsweredLines.{next_reply, later_replies, answered_lines};

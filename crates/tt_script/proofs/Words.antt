@@ -7,7 +7,7 @@ use Rattle.std.proofs.lemmas.List.{take-append-drop}
 use Rattle.std.proofs.lemmas.List.Elements.{All-from_recursion}
 use Rattle.std.proofs.lemmas.List.Folds.{list_all_at}
 use Rattle.std.proofs.lemmas.List.Sums.{fold-append}
-use Rattle.tt_value.specs.TextValue.{IsPrintableAscii}
+use Rattle.tt_value.specs.values.Texts.{IsPrintableAscii}
 use Rattle.tt_script.specs.Bytes.{is_lower, is_digit, is_session_byte}
 use Rattle.tt_script.specs.Lines.{only_if, is_session_name}
 

@@ -9,16 +9,16 @@ use Rattle.tt_value.specs.declared.expression.Sign.TheVariants.{Plus}
 use Rattle.tt_value.specs.declared.expression.Factor.TheVariants as factor
 use Rattle.tt_value.specs.declared.expression.Factor.TheVariants.{rolls-Column, rolls-Literal}
 use Rattle.tt_value.specs.declared.expression.Factor.TheFolds.{fold-Factor, fold-roll-Expr, fold-roll-Term, fold-roll-Factor, fold-roll-Addend}
-use Rattle.tt_value.specs.Scope.{Scope, column_value}
-use Rattle.tt_value.specs.ExpressionMeaning.{value_of, then_both, add_signed, factor_value, addend_value, sum_value, product_value}
+use Rattle.tt_value.specs.trees.Scope.{Scope, column_value}
+use Rattle.tt_value.specs.trees.Expressions.{value_of, then_both, add_signed, factor_value, addend_value, sum_value, product_value}
 use Rattle.tt_value.specs.declared.predicate.Truth.{Truth}
 use Rattle.tt_value.specs.declared.predicate.Unit.{Unit as Test}
 use Rattle.tt_value.specs.declared.predicate.Unit.TheFolds.{fold-Unit, fold-roll-Unit, fold-roll-Conjunction, fold-roll-Predicate}
 use Rattle.tt_value.specs.declared.predicate.Comparison.{Comparison}
 use Rattle.tt_value.specs.declared.predicate.Operand.{Operand}
 use Rattle.tt_value.specs.declared.predicate.Operand.TheVariants as operand
-use Rattle.tt_value.specs.Truths.{or_truth, and_truth, not_truth, not_if, truth_of_bool}
-use Rattle.tt_value.specs.PredicateMeaning.{unit_truth, all_truth, any_truth, truth_of, comparison_truth, in_truth, between_truth, operand_value, is_null as null_test}
+use Rattle.tt_value.specs.trees.Truths.{or_truth, and_truth, not_truth, not_if, truth_of_bool}
+use Rattle.tt_value.specs.trees.Predicates.{unit_truth, all_truth, any_truth, truth_of, comparison_truth, in_truth, between_truth, operand_value, is_null as null_test}
 use Rattle.tt_sql.specs.MeaningExamples.{alone, sum, compare, is_null, is_in, is_between, negation, one, both, whole, either}
 
 module _ (scope : Scope) (row : Row) where

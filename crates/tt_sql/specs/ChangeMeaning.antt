@@ -8,10 +8,10 @@ use Rattle.tt_value.specs.declared.value.Column.{Column}
 use Rattle.tt_value.specs.declared.value.Schema.{Schema}
 use Rattle.tt_value.specs.declared.value.Row.{Row}
 use Rattle.tt_value.specs.declared.name.Name.{Name}
-use Rattle.tt_value.specs.Scope.{Scope, beside, value_or_null}
+use Rattle.tt_value.specs.trees.Scope.{Scope, beside, value_or_null}
 use Rattle.tt_sql.specs.Scopes.{query_scope, target_scope}
-use Rattle.tt_value.specs.ExpressionMeaning.{value_of}
-use Rattle.tt_value.specs.PredicateMeaning.{takes, is_null}
+use Rattle.tt_value.specs.trees.Expressions.{value_of}
+use Rattle.tt_value.specs.trees.Predicates.{takes, is_null}
 use Rattle.tt_sql.specs.declared.change.Dml.{Dml}
 use Rattle.tt_sql.specs.declared.change.Dml.TheVariants as dml
 use Rattle.tt_sql.specs.declared.change.Insert.{Insert}

@@ -19,7 +19,7 @@ use Rattle.tt_value.specs.declared.predicate.Unit.{Unit as Test}
 use Rattle.tt_value.specs.declared.predicate.Unit.TheVariants as unit
 use Rattle.tt_value.specs.declared.predicate.Unit.TheVariants.{rolls-Not, rolls-Bracket as rolls-Group, rolls-Compare, rolls-IsNull, rolls-In, rolls-Between, rolls-StartsWith}
 use Rattle.tt_value.specs.declared.predicate.Unit.TheFolds.{fold-roll-Predicate, fold-roll-Conjunction, fold-roll-Unit}
-use Rattle.tt_value.specs.RowText.{IsPrintableValue}
+use Rattle.tt_value.specs.values.RowText.{IsPrintableValue}
 use Rattle.tt_sql.specs.QueryGiven.{IsListed}
 use Rattle.tt_sql.specs.Given.{Each, Leaf, OfLiteral, OfColumn, AreGiven, joined, operand_leaves, literals_leaves, unit_layer, conjunction_layer, predicate_layer, unit_leaves, conjunction_leaves, predicate_leaves, factor_layer, addend_layer, expr_layer, term_layer, expr_leaves, term_leaves, addend_leaves, factor_leaves}
 

@@ -9,10 +9,10 @@ use Rattle.tt_lex.specs.declared.LexFault.{LexFault}
 use Rattle.tt_lex.specs.declared.TokenKind.{TokenKind}
 use Rattle.tt_lex.specs.declared.TokenKind.TheVariants as kinds
 use Rattle.tt_lex.specs.Lexis.{Piece, Blank, LineComment, BlockComment, Word, Number, Quoted, Sign, IsPiece, spelling, kind_of, IsSpelled}
-use Rattle.tt_lex.specs.WholeLaws.{Answer, answer}
-use Rattle.tt_lex.specs.ReadingLaws.{HasTokens-spelled}
+use Rattle.tt_lex.specs.answer.WholeTexts.{Answer, answer}
+use Rattle.tt_lex.proofs.Places.{HasTokens-spelled}
 use Rattle.tt_lex.specs.TokensOf.{answered, tokens_of}
-use Rattle.tt_value.specs.CalendarReading.{day_of, timestamp_of}
+use Rattle.tt_value.specs.calendar.Reading.{day_of, timestamp_of}
 use Rattle.tt_sql.specs.Grammar.{Lexeme, is_of}
 use Rattle.tt_sql.specs.Checks.{nowhere}
 use Rattle.tt_sql.specs.QuotedLaws.{unquoted-spelling}

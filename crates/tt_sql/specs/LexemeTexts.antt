@@ -11,9 +11,9 @@ use Rattle.std.proofs.lemmas.List.Elements.{recursion_from_All}
 use Rattle.std.proofs.lemmas.Str.Ascii.{uppercase-uppercase}
 use Rattle.tt_lex.specs.Lexis.{Word, Number, Quoted, IsPiece, is_word_start, is_word_part}
 use Rattle.tt_lex.proofs.OneWay.{any_bytes}
-use Rattle.tt_value.specs.Calendar.{milliseconds}
-use Rattle.tt_value.specs.CalendarReading.{digits_value, day_of, timestamp_of}
-use Rattle.tt_value.specs.TimestampLaws.{IsReadMoment, timestamp_of-read}
+use Rattle.tt_value.specs.calendar.Calendar.{milliseconds}
+use Rattle.tt_value.specs.calendar.Reading.{digits_value, day_of, timestamp_of}
+use Rattle.tt_value.proofs.calendar.Timestamps.{IsReadMoment, timestamp_of-read}
 use Rattle.tt_sql.specs.Grammar.{Lexeme, is_of}
 use Rattle.tt_sql.specs.Checks.{nowhere}
 use Rattle.tt_sql.specs.FrontLaws.{or_split, and_join, false≢true}

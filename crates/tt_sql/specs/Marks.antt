@@ -25,7 +25,7 @@ use Rattle.tt_value.specs.declared.predicate.Conjunction.{Conjunction}
 use Rattle.tt_value.specs.declared.predicate.Unit.{Unit as Test}
 use Rattle.tt_value.specs.declared.predicate.Unit.TheFolds.{fold-Predicate, fold-Conjunction, fold-Unit}
 use Rattle.tt_value.specs.declared.predicate.Unit.TheOpen.{Predicate-F, Conjunction-F, Unit-F}
-use Rattle.tt_value.specs.Calendar.{day_text}
+use Rattle.tt_value.specs.calendar.Calendar.{day_text}
 use Rattle.tt_sql.specs.Grammar.{Mark, Way, At, Said, Meant}
 
 -- ---- lists

@@ -22,7 +22,7 @@ use Rattle.tt_value.specs.declared.predicate.Predicate.{Predicate, roll-Predicat
 use Rattle.tt_value.specs.declared.predicate.Conjunction.{Conjunction, roll-Conjunction}
 use Rattle.tt_value.specs.declared.predicate.Unit.{Unit as Test, roll-Unit}
 use Rattle.tt_value.specs.declared.predicate.Unit.TheOpen.{Unit-F}
-use Rattle.tt_value.specs.Scope.{Scope, table_scope}
+use Rattle.tt_value.specs.trees.Scope.{Scope, table_scope}
 use Rattle.tt_sql.specs.declared.query.Query.{Query}
 use Rattle.tt_sql.specs.declared.query.Selection.{Selection}
 use Rattle.tt_sql.specs.declared.query.Key.{Key}

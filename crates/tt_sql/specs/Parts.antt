@@ -1,6 +1,6 @@
 -- Small parts of which the grammar of statements consists, and what they note.
 use Rattle.std.specs.Prelude.{ℕ, Bool, ◌==◌, List, [], ◌∷◌, pos, neg_ℤ, ℤ, Option, Some, None}
-use Rattle.tt_value.specs.CalendarReading.{digits_value, timestamp_of}
+use Rattle.tt_value.specs.calendar.Reading.{digits_value, timestamp_of}
 use Rattle.tt_sql.specs.Grammar.{Lexeme, Mark, Way, At, Said, Meant, Gram, Tok, Note, Both, Either, Many}
 use Rattle.tt_sql.specs.Checks.{nowhere}
 use Rattle.tt_sql.specs.TokenKinds.{NAME, SHORT_NUMBER, TIME_TEXT, UNIT_TEXT, NAME_TEXT, OTHER_TEXT, OPEN, CLOSE, COMMA, is_name, is_number, is_quoted, upper, unit_words, place_in}

@@ -16,7 +16,7 @@ use Rattle.tt_value.specs.declared.predicate.Unit.{Unit as Test, roll-Unit, out-
 use Rattle.tt_value.specs.declared.predicate.Unit.TheVariants as unit
 use Rattle.tt_value.specs.declared.predicate.Unit.TheVariants.{rolls-Not, rolls-Bracket as rolls-Group, rolls-Compare, rolls-IsNull, rolls-In, rolls-Between, rolls-StartsWith}
 use Rattle.tt_value.specs.declared.predicate.Unit.TheOpen.{Unit-F}
-use Rattle.tt_value.specs.RowText.{IsPrintableValue}
+use Rattle.tt_value.specs.values.RowText.{IsPrintableValue}
 use Rattle.tt_sql.specs.Grammar.{Mark, Way}
 use Rattle.tt_sql.specs.Marks.{repeated, qualified, value_marks, literal_marks, listed_marks, flag_marks, quoted_marks, comparison_marks, operand_marks, unit_marks, conjunction_marks, predicate_marks}
 use Rattle.tt_sql.specs.MarksLaws.{marks-Not, marks-Group, marks-Compare, marks-IsNull, marks-In, marks-Between, marks-StartsWith, marks-Conjunction, marks-Predicate}

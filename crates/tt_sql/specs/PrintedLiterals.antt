@@ -1,7 +1,7 @@
 -- Names, literals, moments and quoted texts that stand in statements.
 use Rattle.std.specs.Prelude.{◌≡◌, true, ℕ, suc, ◌<◌, ◌≤◌, ◌^◌, List, ℤ, pos, negsuc, neg_ℤ, ◌≤ℤ◌}
 use Rattle.tt_lex.specs.Lexis.{Quoted, IsPiece}
-use Rattle.tt_value.specs.Calendar.{IsDay}
+use Rattle.tt_value.specs.calendar.Calendar.{IsDay}
 use Rattle.tt_sql.specs.TokenKinds.{upper, is_word, is_name, word_kind}
 use Rattle.tt_value.specs.declared.value.Value.{Value}
 use Rattle.tt_value.specs.declared.value.Value.TheVariants.{Null, Int, Date, Text}

@@ -14,10 +14,10 @@ use Rattle.tt_value.specs.declared.expression.Expr.{out-Expr}
 use Rattle.tt_value.specs.declared.expression.Term.{out-Term}
 use Rattle.tt_value.specs.declared.expression.Factor.{Factor}
 use Rattle.tt_value.specs.declared.expression.Factor.TheVariants.{Column}
-use Rattle.tt_value.specs.Order.{value_cmp, row_cmp, is_same_row}
-use Rattle.tt_value.specs.Scope.{Scope, column_value, value_or_null}
-use Rattle.tt_value.specs.ExpressionMeaning.{value_of, in_range}
-use Rattle.tt_value.specs.PredicateMeaning.{takes, is_null}
+use Rattle.tt_value.specs.values.Order.{value_cmp, row_cmp, is_same_row}
+use Rattle.tt_value.specs.trees.Scope.{Scope, column_value, value_or_null}
+use Rattle.tt_value.specs.trees.Expressions.{value_of, in_range}
+use Rattle.tt_value.specs.trees.Predicates.{takes, is_null}
 use Rattle.tt_sql.specs.declared.query.Query.{Query}
 use Rattle.tt_sql.specs.declared.query.Selection.{Selection}
 use Rattle.tt_sql.specs.declared.query.Selection.TheVariants.{All, Listed}

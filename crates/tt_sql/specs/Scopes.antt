@@ -6,7 +6,7 @@ use Rattle.tt_value.specs.declared.value.Schema.{Schema}
 use Rattle.tt_value.specs.declared.name.Name.{Name}
 use Rattle.tt_value.specs.declared.name.ColumnName.{ColumnName}
 use Rattle.tt_value.specs.declared.name.TableName.{TableName}
-use Rattle.tt_value.specs.Scope.{Scope, column_place}
+use Rattle.tt_value.specs.trees.Scope.{Scope, column_place}
 use Rattle.tt_sql.specs.declared.query.Query.{Query}
 use Rattle.tt_sql.specs.declared.query.Join.{Join}
 

@@ -1,7 +1,7 @@
 -- Statements that their marks determine: names stand alone, lists are not empty, and dates are days of the years 1 to
 -- 9999. All that the grammar gives are among them.
 use Rattle.std.specs.Prelude.{⊤}
-use Rattle.tt_value.specs.RowText.{IsPrintableValue}
+use Rattle.tt_value.specs.values.RowText.{IsPrintableValue}
 use Rattle.tt_sql.specs.declared.change.Dml.{Dml}
 use Rattle.tt_sql.specs.declared.change.Dml.TheVariants as dml
 use Rattle.tt_sql.specs.declared.change.InsertSource.{InsertSource}

@@ -9,7 +9,7 @@ use Rattle.tt_value.specs.declared.value.Kind.{Kind}
 use Rattle.tt_value.specs.declared.value.Kind.TheVariants as kinds
 use Rattle.tt_value.specs.declared.expression.Expr.{Expr}
 use Rattle.tt_value.specs.declared.predicate.Predicate.{Predicate}
-use Rattle.tt_value.specs.RowText.{IsPrintableValue}
+use Rattle.tt_value.specs.values.RowText.{IsPrintableValue}
 use Rattle.tt_sql.specs.declared.change.Dml.TheVariants as dml
 use Rattle.tt_sql.specs.declared.change.Copy.{Copy}
 use Rattle.tt_sql.specs.declared.change.Delete.{Delete}

@@ -8,7 +8,7 @@ use Rattle.tt_lex.specs.declared.Token.{Token}
 use Rattle.tt_lex.specs.declared.TokenKind.{TokenKind}
 use Rattle.tt_lex.specs.declared.TokenKind.TheVariants as kinds
 use Rattle.tt_lex.specs.Lexis.{is_word_start, is_word_part, is_quote, text_of}
-use Rattle.tt_value.specs.CalendarReading.{digits_value, day_of, timestamp_of}
+use Rattle.tt_value.specs.calendar.Reading.{digits_value, day_of, timestamp_of}
 use Rattle.tt_sql.specs.Grammar.{Lexeme}
 
 -- ---- the words

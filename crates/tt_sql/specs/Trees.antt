@@ -9,7 +9,7 @@ use Rattle.tt_value.specs.declared.expression.Term.{Term, roll-Term}
 use Rattle.tt_value.specs.declared.expression.Addend.{Addend, roll-Addend}
 use Rattle.tt_value.specs.declared.expression.Factor.{Factor}
 use Rattle.tt_value.specs.declared.expression.Factor.TheVariants as factor
-use Rattle.tt_value.specs.CalendarReading.{day_of}
+use Rattle.tt_value.specs.calendar.Reading.{day_of}
 use Rattle.tt_sql.specs.Grammar.{Mark, Way, At, Said, Meant}
 
 abbrev pub Reader : Type 0 → Type 0

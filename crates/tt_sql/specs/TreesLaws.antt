@@ -14,8 +14,8 @@ use Rattle.tt_value.specs.declared.expression.Factor.{Factor, out-Factor, roll-F
 use Rattle.tt_value.specs.declared.expression.Factor.TheVariants as factor
 use Rattle.tt_value.specs.declared.expression.Factor.TheVariants.{rolls-Literal, rolls-Column, rolls-Bracket, rolls-Negated}
 use Rattle.tt_value.specs.declared.expression.Factor.TheOpen.{Factor-F}
-use Rattle.tt_value.specs.RowText.{IsPrintableValue}
-use Rattle.tt_value.specs.CalendarReadingLaws.{day_of-written}
+use Rattle.tt_value.specs.values.RowText.{IsPrintableValue}
+use Rattle.tt_value.proofs.calendar.Dates.{day_of-written}
 use Rattle.tt_sql.specs.Grammar.{Mark, Way, At}
 use Rattle.tt_sql.specs.Marks.{repeated, qualified, value_marks, sign_marks, expr_marks, term_marks, addend_marks, factor_marks}
 use Rattle.tt_sql.specs.MarksLaws.{marks-Literal, marks-Column, marks-Bracket, marks-Negated, marks-Addend, marks-Term, marks-Expr}

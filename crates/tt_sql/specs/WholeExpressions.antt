@@ -13,7 +13,7 @@ use Rattle.tt_value.specs.declared.expression.Factor.{Factor, out-Factor, out-ro
 use Rattle.tt_value.specs.declared.expression.Factor.TheOpen.{Factor-F}
 use Rattle.tt_value.specs.declared.expression.Factor.TheVariants.{rolls-Literal, rolls-Column, rolls-Bracket, rolls-Negated}
 use Rattle.tt_value.specs.declared.expression.Factor.TheVariants as factors
-use Rattle.tt_value.specs.CalendarReading.{digits_value}
+use Rattle.tt_value.specs.calendar.Reading.{digits_value}
 use Rattle.tt_sql.specs.Grammar.{Mark, Way, At}
 use Rattle.tt_sql.specs.TokenKinds.{STAR}
 use Rattle.tt_sql.specs.Parts.{◌▸◌, one}

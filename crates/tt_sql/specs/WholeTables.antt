@@ -2,7 +2,7 @@
 use Rattle.std.proofs.Common.{Bool, true, false, List, [], ◌∷◌, ◌++◌, map, Some, None, refl, ap, ◌∙◌, append_assoc}
 use Rattle.tt_value.specs.declared.name.TableName.{TableName}
 use Rattle.tt_value.specs.declared.value.Kind.TheVariants as kinds
-use Rattle.tt_value.specs.CalendarReading.{digits_value}
+use Rattle.tt_value.specs.calendar.Reading.{digits_value}
 use Rattle.tt_sql.specs.declared.table.Alter.{Alter}
 use Rattle.tt_sql.specs.declared.table.Change.TheVariants as changes
 use Rattle.tt_sql.specs.declared.table.ClonedTable.{ClonedTable}

@@ -3,8 +3,8 @@ use Rattle.std.proofs.Common.{◌≡◌, ℕ, zero, suc, ◌^◌, ◌≤◌, Boo
 use Rattle.std.specs.Prelude.{⊤, ℤ, pos, neg_ℤ}
 use Rattle.tt_value.specs.declared.name.Literal.{Literal}
 use Rattle.tt_value.specs.declared.value.Value.TheVariants.{Null, Int, Date, Text}
-use Rattle.tt_value.specs.CalendarReading.{day_of, digits_value}
-use Rattle.tt_value.specs.CalendarReadingLaws.{day_of-read}
+use Rattle.tt_value.specs.calendar.Reading.{day_of, digits_value}
+use Rattle.tt_value.proofs.calendar.Dates.{day_of-read}
 use Rattle.tt_sql.specs.Grammar.{Lexeme, Mark, Way, Said, Gram, Tok, Many}
 use Rattle.tt_sql.specs.TokenKinds.{COMMA, DATE_TEXT}
 use Rattle.tt_sql.specs.Parts.{◌▸◌, one, name, number, short_number, quoted, maybe, listed}

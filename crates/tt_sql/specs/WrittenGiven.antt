@@ -4,7 +4,7 @@ use Rattle.std.specs.Prelude.{⊤}
 use Rattle.tt_value.specs.declared.name.Literal.{Literal}
 use Rattle.tt_value.specs.declared.value.Value.{Value}
 use Rattle.tt_value.specs.declared.value.Value.TheVariants.{Null, Int, Date, Text}
-use Rattle.tt_value.specs.RowText.{IsPrintableValue}
+use Rattle.tt_value.specs.values.RowText.{IsPrintableValue}
 use Rattle.tt_value.specs.declared.expression.Expr.{Expr, out-Expr, fold_out-Expr}
 use Rattle.tt_value.specs.declared.expression.Term.{Term, out-Term, fold_out-Term}
 use Rattle.tt_value.specs.declared.expression.Addend.{Addend, out-Addend, fold_out-Addend}

@@ -5,11 +5,11 @@ ghost use Rattle.tt_value.specs.declared.value.Value.TheVariants.{Null, Int, Dat
 ghost use Rattle.tt_value.specs.declared.predicate.Truth.TheVariants.{True, False, Unknown};
 ghost use Rattle.tt_value.specs.declared.predicate.Comparison.TheVariants.{Equal, Less};
 ghost use Rattle.tt_value.specs.declared.predicate.Operand.TheVariants as operand;
-ghost use Rattle.tt_value.specs.Truths.{and_truth, or_truth, not_truth, not_if};
-ghost use Rattle.tt_value.specs.PredicateMeaning.{comparison_truth, in_truth, between_truth, begins, truth_of};
+ghost use Rattle.tt_value.specs.trees.Truths.{and_truth, or_truth, not_truth, not_if};
+ghost use Rattle.tt_value.specs.trees.Predicates.{comparison_truth, in_truth, between_truth, begins, truth_of};
 ghost use Rattle.std.specs.Prelude.{◌^◌, ◌-ℤ◌};
 ghost use Rattle.tt_value.specs.declared.expression.Factor.TheVariants as factor;
-ghost use Rattle.tt_value.specs.ExpressionMeaning.{on_numbers, negated, in_range, value_of};
+ghost use Rattle.tt_value.specs.trees.Expressions.{on_numbers, negated, in_range, value_of};
 ghost use Rattle.tt_sql.specs.declared.query.Item.TheVariants as item;
 ghost use Rattle.tt_sql.specs.declared.query.Selection.TheVariants as selection;
 ghost use Rattle.tt_sql.specs.declared.query.KeyColumn.TheVariants as key;
@@ -19,7 +19,7 @@ ghost use Rattle.tt_sql.specs.declared.change.InsertSource.TheVariants as source
 ghost use Rattle.tt_sql.specs.MeaningExamples.{scope, row_of, ints, just_ints, x, y, d, s, int, literal, number, name, query, alone, sum, schema, strict, numbers, table, compare, is_null, is_in, is_between, negation, one, both, whole, either};
 
 /// NULL in comparisons, IN, BETWEEN, AND, OR and NOT; dates in quotes.
-#[tactic(auto, unfolding(tt_value::specs::Order::value_cmp, tt_value::specs::CalendarReading::day_of))]
+#[tactic(auto, unfolding(tt_value::specs::values::Order::value_cmp, tt_value::specs::calendar::Reading::day_of))]
 pub fn predicates_by_example()
     // 1 = NULL, NULL = NULL
     ensures null_is_unknown { comparison_truth scope (row_of (Int (pos 1)) Null Null) (operand.Column x) Equal (operand.Literal (literal Null)) ≡ Unknown }
@@ -44,7 +44,7 @@ pub fn predicates_by_example()
 {}
 
 /// Sums, counts, groups, the order and the limit of an answer.
-#[tactic(auto, unfolding(tt_value::specs::Order::value_cmp, tt_value::specs::Order::row_cmp, crate::specs::QueryMeaning::answer_of, crate::specs::QueryMeaning::selected_rows, crate::specs::QueryMeaning::arranged))]
+#[tactic(auto, unfolding(tt_value::specs::values::Order::value_cmp, tt_value::specs::values::Order::row_cmp, crate::specs::QueryMeaning::answer_of, crate::specs::QueryMeaning::selected_rows, crate::specs::QueryMeaning::arranged))]
 pub fn answers_by_example()
     // COUNT(*) of two rows, COUNT of a column with one NULL, SUM over nothing, MIN of texts
     ensures count_all { item_value scope (ints (1 ∷ 2 ∷ [])) (item.CountAll 0) ≡ Some (Int (pos 2)) }
@@ -75,7 +75,7 @@ pub fn numbers_by_example()
 {}
 
 /// A sum out of range in a row that the limit cuts off, two rows alike that are changed, and SETs that read the old row.
-#[tactic(auto, using(crate::proofs::ExampleLaws::value_of_sum, crate::proofs::ExampleLaws::value_of_column), unfolding(tt_value::specs::Order::value_cmp, tt_value::specs::Order::row_cmp, crate::specs::QueryMeaning::answer_of, crate::specs::QueryMeaning::selected_rows, crate::specs::QueryMeaning::arranged))]
+#[tactic(auto, using(crate::proofs::ExampleLaws::value_of_sum, crate::proofs::ExampleLaws::value_of_column), unfolding(tt_value::specs::values::Order::value_cmp, tt_value::specs::values::Order::row_cmp, crate::specs::QueryMeaning::answer_of, crate::specs::QueryMeaning::selected_rows, crate::specs::QueryMeaning::arranged))]
 pub fn changes_by_example()
     // SELECT x + 1 FROM t LIMIT 0 over the greatest number
     ensures limit_hides_nothing { answer_of scope (query (selection.Listed (item.Expr (sum (factor.Column x) (factor.Literal (int 1))) ∷ [])) [] [] (Some (number 0))) (ints (9223372036854775807 ∷ [])) ≡ None }

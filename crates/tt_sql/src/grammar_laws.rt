@@ -46,7 +46,7 @@ pub fn kinds_are_of_their_words()
 {}
 
 /// The kinds of numbers and of quoted texts at their limits.
-#[tactic(auto, unfolding(crate::specs::TokenKinds::word_kind, crate::specs::TokenKinds::number_kind, crate::specs::TokenKinds::text_kind, tt_value::specs::CalendarReading::day_of, tt_value::specs::CalendarReading::clock_of, tt_value::specs::CalendarReading::timestamp_of))]
+#[tactic(auto, unfolding(crate::specs::TokenKinds::word_kind, crate::specs::TokenKinds::number_kind, crate::specs::TokenKinds::text_kind, tt_value::specs::calendar::Reading::day_of, tt_value::specs::calendar::Reading::clock_of, tt_value::specs::calendar::Reading::timestamp_of))]
 pub fn kinds_by_example()
     ensures nine_digits { number_kind (codes "999999999") ≡ SHORT_NUMBER }
     ensures ten_digits { number_kind (codes "0000000001") ≡ NUMBER }

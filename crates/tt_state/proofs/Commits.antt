@@ -17,9 +17,9 @@ use Rattle.tt_state.specs.declared.ticket.Built.{Built}
 use Rattle.tt_state.specs.declared.ticket.Seen.{Seen}
 use Rattle.tt_state.specs.declared.ticket.Ticket.{Ticket}
 use Rattle.tt_state.specs.Book.{Book, StandsFor}
-use Rattle.tt_state.specs.OutcomeLaws.{insert_step}
+use Rattle.tt_state.proofs.Outcomes.{insert_step}
 use Rattle.tt_state.specs.Ready.{IsReady}
-use Rattle.tt_state.specs.ReadyLaws.{committed_ready}
+use Rattle.tt_state.proofs.Ready.{committed_ready}
 use Rattle.tt_state.specs.Tickets.{opened_by, seen_rows, TargetHasSchema, IsBuiltFor}
 use Rattle.tt_state.proofs.Turns.{open_ready, open_target}
 

@@ -25,7 +25,7 @@ use Rattle.tt_state.specs.declared.ticket.Started.TheVariants as started
 use Rattle.tt_state.specs.Book.{Book, StandsFor}
 use Rattle.tt_state.specs.Outcomes.{Starts}
 use Rattle.tt_state.specs.Ready.{IsReady}
-use Rattle.tt_state.specs.ReadyLaws.{ready}
+use Rattle.tt_state.proofs.Ready.{ready}
 use Rattle.tt_state.specs.Tickets.{opened_by, SeesTables, HaveTheirSchemas, TargetHasSchema, AddsToTarget, GivesTicket}
 
 pub next_ready : (book : Book) (room session index : ℕ) (read : Result Statement ℕ) → StandsFor book room → next_statement book.program book.store session index ≡ Some read → IsReady book.program book.store session index

@@ -1,8 +1,8 @@
 //! Rows that a change adds to a table.
 
 ghost use Rattle.std.specs.Prelude.{◌≡◌, ◌<◌, ◌≤◌, ◌+◌, ◌^◌, length, All, IfOk, OnOk, OnErr, Some};
-ghost use Rattle.tt_value.specs.BagRows.{bag_of, bag_plus};
-ghost use Rattle.tt_value.specs.RowText.{IsPrintable};
+ghost use Rattle.tt_value.specs.values.Bags.{bag_of, bag_plus};
+ghost use Rattle.tt_value.specs.values.RowText.{IsPrintable};
 ghost use Rattle.tt_plain.specs.Store.{current_rows as rows_of};
 ghost use Rattle.tt_plain.specs.InsertRows.{with_commit};
 ghost use Rattle.tt_state.specs.PlainOf.{plain_of};

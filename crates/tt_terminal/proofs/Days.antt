@@ -4,9 +4,9 @@ use Rattle.std.specs.List.{list_all}
 use Rattle.std.proofs.lemmas.Bool.{and_parts}
 use Rattle.std.proofs.lemmas.Bool.Decides.{nat_tests}
 use Rattle.tt_lex.specs.Lexis.{is_quote}
-use Rattle.tt_value.specs.Calendar.{day_text, date_of, IsDay}
-use Rattle.tt_value.specs.CalendarReading.{day_of}
-use Rattle.tt_value.specs.CalendarReadingLaws.{day_of-read}
+use Rattle.tt_value.specs.calendar.Calendar.{day_text, date_of, IsDay}
+use Rattle.tt_value.specs.calendar.Reading.{day_of}
+use Rattle.tt_value.proofs.calendar.Dates.{day_of-read}
 use Rattle.tt_sql.specs.FrontLaws.{false≢true}
 use Rattle.tt_sql.specs.TokenKinds.{DATE_TEXT, TIME_TEXT, UNIT_TEXT, NAME_TEXT, OTHER_TEXT, text_kind, unquoted, undoubled}
 

@@ -1,7 +1,7 @@
 -- Literals of which the parts have been read.
 use Rattle.std.proofs.Common.{◌≡◌, ℕ, ℤ, List, [], ◌∷◌, sym, ap, ◌∙◌, arith, FitsSigned, w32, w64, to_z, of_z}
 use Rattle.std.proofs.lemmas.Int.{to_z-of_z, ints}
-use Rattle.tt_value.specs.Calendar.{day_text}
+use Rattle.tt_value.specs.calendar.Calendar.{day_text}
 use Rattle.tt_sql.specs.Grammar.{Lexeme, Mark, Said, Meant, Gram, Tok, Note}
 use Rattle.tt_sql.specs.TokenKinds.{MINUS, DATE, DATE_TEXT, SHORT_NUMBER, is_negative}
 use Rattle.tt_sql.specs.Parts.{one, as_negative, as_date, ◌▸◌}

@@ -2,7 +2,7 @@
 use Rattle.std.proofs.Common.{◌≡◌, ℕ, ◌≤◌, true, List, ◌∷◌, length, All, refl, ap, subst, arith}
 use Rattle.tt_lex.specs.declared.TokenKind.TheVariants as kinds
 use Rattle.tt_lex.specs.Lexis.{text_of}
-use Rattle.tt_value.specs.TextValue.{IsPrintableAscii}
+use Rattle.tt_value.specs.values.Texts.{IsPrintableAscii}
 use Rattle.tt_sql.specs.Grammar.{is_of, Lexeme, Note}
 use Rattle.tt_sql.specs.Parts.{name, as_text}
 use Rattle.tt_sql.specs.Marks.{name_marks}

@@ -14,7 +14,7 @@ use Rattle.tt_sql.specs.Parts.{number, short_number, as_number, as_negative}
 use Rattle.tt_sql.specs.Read.{negative}
 use Rattle.tt_sql.specs.Marks.{number_marks}
 use Rattle.tt_sql.specs.TokenKinds.{NAME, LONG_NAME, SHORT_NUMBER, NUMBER, LEAST_NUMBER, LARGE_NUMBER, DATE_TEXT, TIME_TEXT, UNIT_TEXT, NAME_TEXT, OTHER_TEXT, OPEN, UNEQUAL, is_number, is_negative, upper, word_kind, number_kind, text_kind, sign_kind, lexeme, unquoted, place_in, reserved_words, other_words}
-use Rattle.tt_value.specs.CalendarReading.{digits_value as number_of}
+use Rattle.tt_value.specs.calendar.Reading.{digits_value as number_of}
 use Rattle.tt_value.specs.declared.name.Number.{Number as Value}
 use Rattle.tt_terminal.specs.declared.rest.Lexed.{Lexed}
 use Rattle.tt_terminal.specs.declared.rest.Rest.{Rest}

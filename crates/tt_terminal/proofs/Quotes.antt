@@ -11,7 +11,7 @@ use Rattle.tt_lex.specs.declared.Token.{Token}
 use Rattle.tt_lex.specs.declared.TokenKind.{TokenKind}
 use Rattle.tt_lex.specs.declared.TokenKind.TheVariants as kinds
 use Rattle.tt_lex.specs.Lexis.{Piece, Word, Number, Quoted, Sign, Blank, LineComment, BlockComment, text_of, is_quote, is_text_byte, doubled, IsPiece, IsSpelled, kind_of, spelling}
-use Rattle.tt_value.specs.TextValue.{IsText, is_control}
+use Rattle.tt_value.specs.values.Texts.{IsText, is_control}
 use Rattle.tt_sql.specs.Grammar.{is_of, Lexeme, Note}
 use Rattle.tt_sql.specs.Parts.{quoted, as_text}
 use Rattle.tt_sql.specs.Marks.{quoted_marks}

@@ -1,8 +1,8 @@
 //! Readers of literals.
 
 ghost use Rattle.std.specs.Prelude.{◌≡◌, ◌<◌, ◌^◌, ◌++◌, [], ◌∷◌, IfOk};
-ghost use Rattle.tt_value.specs.Calendar.{day_text, IsDay};
-ghost use Rattle.tt_value.specs.RowText.{IsPrintableValue};
+ghost use Rattle.tt_value.specs.calendar.Calendar.{day_text, IsDay};
+ghost use Rattle.tt_value.specs.values.RowText.{IsPrintableValue};
 ghost use Rattle.tt_sql.specs.Grammar.{Way, At, Meant, Said};
 ghost use Rattle.tt_sql.specs.Marks.{literal_marks, number_marks, quoted_marks};
 ghost use Rattle.tt_sql.specs.Written.{literal as literal_part};

@@ -2,8 +2,8 @@
 
 ghost use Rattle.std.specs.Prelude.{◌≡◌, ◌≤◌, ◌==◌, false, length, IfOk, MatchOption};
 ghost use Rattle.std.specs.Str.{IsUtf8};
-ghost use Rattle.tt_value.specs.TextValue.{IsText};
-ghost use Rattle.tt_value.specs.Calendar.{day_text, IsDay};
+ghost use Rattle.tt_value.specs.values.Texts.{IsText};
+ghost use Rattle.tt_value.specs.calendar.Calendar.{day_text, IsDay};
 ghost use Rattle.tt_sql.specs.Grammar.{is_of};
 ghost use Rattle.tt_sql.specs.TokenKinds.{OTHER_TEXT, DATE_TEXT, is_quoted, text_kind, unquoted as unquoted_bytes, undoubled as undoubled_bytes};
 ghost use Rattle.tt_sql.specs.Parts.{quoted as quoted_part};

@@ -1,7 +1,7 @@
 //! The catalog: what is defined, refused, added and seen.
 
 ghost use Rattle.std.specs.Prelude.{◌≡◌, true, IfOk};
-ghost use Rattle.tt_value.specs.RowText.{IsPrintable};
+ghost use Rattle.tt_value.specs.values.RowText.{IsPrintable};
 ghost use Rattle.tt_state.specs.PlainOf.{plain_of};
 ghost use Rattle.tt_state.specs.Ready.{IsReady};
 

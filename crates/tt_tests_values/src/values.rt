@@ -1,6 +1,6 @@
 //! Values: their order, rows and bags of rows, how they are written, texts and lists.
 
-ghost use Rattle.tt_value.specs.RowText.{IsPrintableValue};
+ghost use Rattle.tt_value.specs.values.RowText.{IsPrintableValue};
 ghost use Rattle.std.specs.Prelude.{◌∷◌, [], ◌++◌, All};
 
 use std::alloc::Global;

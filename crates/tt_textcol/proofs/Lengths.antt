@@ -4,9 +4,9 @@ use Rattle.std.specs.Prelude.{nat_lt, if◌then◌else◌}
 use Rattle.std.specs.List.{flat_map}
 use Rattle.std.specs.Int.{w16, to_le_bytes}
 use Rattle.std.proofs.lemmas.List.{length-map, flat_map_more, take_more, append-nil}
-use Rattle.tt_value.specs.Packing.{bytes_for, packed, width_of}
-use Rattle.tt_value.specs.ColumnBody.{word, is_same, run_bytes, run_body, runs_after, distinct, index_in}
-use Rattle.tt_value.proofs.PackingLaws.{length-packed}
+use Rattle.tt_value.specs.columns.Packing.{bytes_for, packed, width_of}
+use Rattle.tt_value.specs.columns.Body.{word, is_same, run_bytes, run_body, runs_after, distinct, index_in}
+use Rattle.tt_value.proofs.columns.Packing.{length-packed}
 use Rattle.tt_textcol.specs.declared.encoding.Encoding.{Encoding}
 use Rattle.tt_textcol.specs.declared.encoding.Encoding.TheVariants.{Plain, Run, Dictionary}
 use Rattle.tt_textcol.specs.declared.choice.Length.{Length}

@@ -5,10 +5,10 @@ use Rattle.std.specs.Int.{Width, byte_len, w16, to_le_bytes, from_le_bytes}
 use Rattle.std.proofs.lemmas.Bool.{le-ltb}
 use Rattle.std.proofs.lemmas.List.{append-nil, take_at, drop_at, length-append}
 use Rattle.std.proofs.lemmas.Nat.{from_le_bytes-to_le_bytes_2}
-use Rattle.tt_value.specs.ColumnBody.{present, bitmap_of}
-use Rattle.tt_value.specs.ColumnReading.{number_at}
-use Rattle.tt_value.proofs.Indexes.{present_le}
-use Rattle.tt_value.proofs.Again.{values_again, run_values_again, dictionary_values_again, flags_again, present_count_again, spread_again}
+use Rattle.tt_value.specs.columns.Body.{present, bitmap_of}
+use Rattle.tt_value.specs.columns.Reading.{number_at}
+use Rattle.tt_value.proofs.columns.Indexes.{present_le}
+use Rattle.tt_value.proofs.columns.Again.{values_again, run_values_again, dictionary_values_again, flags_again, present_count_again, spread_again}
 use Rattle.tt_textcol.specs.declared.encoding.Encoding.{Encoding}
 use Rattle.tt_textcol.specs.declared.encoding.Encoding.TheVariants.{Plain, Run, Dictionary}
 use Rattle.tt_textcol.specs.TextBody.{text_bytes, text_cmp, IsValue, body, code, encoding_of, column_of}

@@ -5,10 +5,10 @@ use Rattle.std.specs.List.{AllByRecursion}
 use Rattle.std.specs.Int.{w16, to_le_bytes, from_le_bytes}
 use Rattle.std.proofs.lemmas.Bool.{ltb-false}
 use Rattle.std.proofs.lemmas.List.{append-nil, take-append-drop}
-use Rattle.tt_value.specs.ColumnBody.{present, bitmap_of, has_null}
-use Rattle.tt_value.specs.ColumnReading.{◌>>=◌, checked, number_at, ended, flags_at, present_count, spread}
-use Rattle.tt_value.proofs.PackingLaws.{Fit}
-use Rattle.tt_value.proofs.Accepted.{bound, held, enough, same_ok, short_taken, ended_taken, values_taken, run_values_taken, dictionary_values_taken, rows_taken}
+use Rattle.tt_value.specs.columns.Body.{present, bitmap_of, has_null}
+use Rattle.tt_value.specs.columns.Reading.{◌>>=◌, checked, number_at, ended, flags_at, present_count, spread}
+use Rattle.tt_value.proofs.columns.Packing.{Fit}
+use Rattle.tt_value.proofs.columns.Accepted.{bound, held, enough, same_ok, short_taken, ended_taken, values_taken, run_values_taken, dictionary_values_taken, rows_taken}
 use Rattle.tt_textcol.specs.declared.encoding.Encoding.{Encoding}
 use Rattle.tt_textcol.specs.declared.encoding.Encoding.TheVariants.{Plain, Run, Dictionary}
 use Rattle.tt_textcol.specs.declared.column.TextColumn.{TextColumn}

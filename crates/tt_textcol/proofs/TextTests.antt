@@ -4,7 +4,7 @@ use Rattle.std.specs.Prelude.{is_none}
 use Rattle.std.specs.List.{position}
 use Rattle.std.specs.Str.{IsUtf8, is_utf8}
 use Rattle.std.proofs.lemmas.Str.{IsUtf8-from_is_utf8, is_utf8-from_IsUtf8}
-use Rattle.tt_value.specs.TextValue.{IsText, is_control}
+use Rattle.tt_value.specs.values.Texts.{IsText, is_control}
 use Rattle.tt_textcol.specs.TextBody.{IsValue}
 use Rattle.tt_textcol.specs.TextReading.{is_text}
 

@@ -5,8 +5,8 @@ use Rattle.std.specs.Str.{IsUtf8}
 use Rattle.std.specs.declared.cmp.Ordering.{Ordering}
 use Rattle.std.specs.Ordering.{nat_cmp}
 use Rattle.std.specs.Cmp.Lexicographic.{slice_cmp}
-use Rattle.tt_value.specs.TextValue.{IsText}
-use Rattle.tt_value.specs.ColumnBody.{plain_body, run_body, dictionary_body, present, has_null, bitmap_of}
+use Rattle.tt_value.specs.values.Texts.{IsText}
+use Rattle.tt_value.specs.columns.Body.{plain_body, run_body, dictionary_body, present, has_null, bitmap_of}
 use Rattle.tt_textcol.specs.declared.encoding.Encoding.{Encoding}
 use Rattle.tt_textcol.specs.declared.encoding.Encoding.TheVariants.{Plain, Run, Dictionary}
 use Rattle.tt_textcol.specs.declared.column.TextColumn.{TextColumn}

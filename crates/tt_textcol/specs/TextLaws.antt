@@ -2,7 +2,7 @@
 use Rattle.std.specs.Cmp.{IsTotalOrder}
 use Rattle.std.proofs.lemmas.Cmp.{nat_list_cmp_total}
 use Rattle.std.proofs.lemmas.Map.Lookups.{exact_bytes}
-use Rattle.tt_value.specs.Order.{TiesAreSame}
+use Rattle.tt_value.specs.values.Order.{TiesAreSame}
 use Rattle.tt_textcol.specs.TextBody.{text_cmp}
 
 pub text_total : IsTotalOrder text_cmp

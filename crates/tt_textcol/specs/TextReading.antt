@@ -3,8 +3,8 @@ use Rattle.std.specs.Prelude.{◌≡◌, ℕ, zero, suc, ◌+◌, ◌-◌, Bool,
 use Rattle.std.specs.List.{position}
 use Rattle.std.specs.Int.{w16}
 use Rattle.std.specs.Str.{is_utf8}
-use Rattle.tt_value.specs.TextValue.{is_control}
-use Rattle.tt_value.specs.ColumnReading.{◌>>=◌, checked, number_at, values_at, run_values_at, dictionary_values_at, ended, flags_at, present_count, spread}
+use Rattle.tt_value.specs.values.Texts.{is_control}
+use Rattle.tt_value.specs.columns.Reading.{◌>>=◌, checked, number_at, values_at, run_values_at, dictionary_values_at, ended, flags_at, present_count, spread}
 use Rattle.tt_textcol.specs.declared.encoding.Encoding.{Encoding}
 use Rattle.tt_textcol.specs.declared.encoding.Encoding.TheVariants.{Plain, Run, Dictionary}
 use Rattle.tt_textcol.specs.declared.column.TextColumn.{TextColumn}

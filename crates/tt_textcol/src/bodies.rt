@@ -2,7 +2,7 @@
 
 ghost use Rattle.std.specs.Prelude.{◌≡◌, ◌+◌, ◌-◌, ◌*◌, ◌^◌, ◌<◌, ◌≤◌, ◌++◌, length, map, IfOk, OnOk, List};
 ghost use Rattle.std.specs.List.{flat_map};
-ghost use Rattle.tt_value.specs.ColumnBody.{run_bytes, runs_of, distinct, index_in};
+ghost use Rattle.tt_value.specs.columns.Body.{run_bytes, runs_of, distinct, index_in};
 ghost use Rattle.tt_textcol.specs.TextBody.{text_bytes, text_cmp, body};
 
 use crate::encoding::Encoding;

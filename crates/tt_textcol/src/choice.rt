@@ -2,8 +2,8 @@
 
 ghost use Rattle.std.specs.Prelude.{◌≡◌, ◌≢◌, ◌==◌, ◌+◌, ◌-◌, ◌*◌, ◌%◌, ◌^◌, ◌<◌, ◌≤◌, true, false, nat_lt, if◌then◌else◌, length, map, IfOk, MatchOption, List};
 ghost use Rattle.std.specs.List.{flat_map};
-ghost use Rattle.tt_value.specs.ColumnBody.{runs_of, distinct, index_in};
-ghost use Rattle.tt_value.specs.Packing.{bytes_for, width_of};
+ghost use Rattle.tt_value.specs.columns.Body.{runs_of, distinct, index_in};
+ghost use Rattle.tt_value.specs.columns.Packing.{bytes_for, width_of};
 ghost use Rattle.tt_textcol.specs.TextBody.{text_bytes, text_cmp, body, code, encoding_of};
 ghost use Rattle.tt_textcol.specs.TextNumber.{text_number, number_in};
 

@@ -3,9 +3,9 @@
 ghost use Rattle.std.specs.Prelude.{◌≡◌, ◌+◌, ◌-◌, ◌*◌, ◌^◌, ◌<◌, ◌≤◌, true, false, length, Ok, Err, MatchOption};
 ghost use Rattle.std.specs.List.{position};
 ghost use Rattle.std.specs.Int.{w16, w32};
-ghost use Rattle.tt_value.specs.TextValue.{is_control as control_test};
-ghost use Rattle.tt_value.specs.Packing.{bytes_for};
-ghost use Rattle.tt_value.specs.ColumnReading.{number_at, packed_at, count_at};
+ghost use Rattle.tt_value.specs.values.Texts.{is_control as control_test};
+ghost use Rattle.tt_value.specs.columns.Packing.{bytes_for};
+ghost use Rattle.tt_value.specs.columns.Reading.{number_at, packed_at, count_at};
 ghost use Rattle.tt_textcol.specs.TextReading.{Gives, is_text, text_at};
 
 use crate::column::{BadColumn, DecodeError};
@@ -95,7 +95,7 @@ pub fn read_text(end: u64, bytes: &[u8]) -> Result<(TextRef<'_>, &[u8]), DecodeE
 }
 
 /// A number of runs or of distinct values.
-#[tactic(auto, unfolding(tt_value::specs::ColumnReading::count_at))]
+#[tactic(auto, unfolding(tt_value::specs::columns::Reading::count_at))]
 pub fn read_count(end: u64, most: usize, bytes: &[u8]) -> Result<(u32, &[u8]), DecodeError>
     ensures { Gives (λ x. (x.0, x.1.now)) result (count_at end most bytes.now) }
 {
@@ -115,7 +115,7 @@ pub fn packed_size(count: usize, width: u32) -> u128
 }
 
 /// Packed numbers.
-#[tactic(auto, unfolding(tt_value::specs::ColumnReading::packed_at))]
+#[tactic(auto, unfolding(tt_value::specs::columns::Reading::packed_at))]
 pub fn read_packed(
     alloc: Global,
     end: u64,

@@ -3,7 +3,7 @@
 ghost use Rattle.std.specs.Prelude.{◌≡◌, ◌+◌, ◌-◌, ◌*◌, ◌^◌, ◌<◌, ◌≤◌, ◌++◌, not, None, length, replicate, Ok, Err, IfOk, OnOk};
 ghost use Rattle.std.specs.List.{list_all};
 ghost use Rattle.std.specs.Option.{option_map};
-ghost use Rattle.tt_value.specs.ColumnReading.{is_new, is_next, uses_each, values_of, looked_up, dictionary_values_at, packed_at, values_at, run_at, runs_at, run_values_at, entry_at, entries_at};
+ghost use Rattle.tt_value.specs.columns.Reading.{is_new, is_next, uses_each, values_of, looked_up, dictionary_values_at, packed_at, values_at, run_at, runs_at, run_values_at, entry_at, entries_at};
 ghost use Rattle.tt_textcol.specs.TextBody.{text_cmp};
 ghost use Rattle.tt_textcol.specs.TextReading.{Gives, text_at};
 
@@ -42,7 +42,7 @@ fn is_same_as<'a>(before: &Option<TextRef<'a>>, value: &TextRef<'a>) -> bool
 }
 
 /// A run, behind that of another text; its length is at most what is left.
-#[tactic(auto, unfolding(tt_value::specs::ColumnReading::run_at))]
+#[tactic(auto, unfolding(tt_value::specs::columns::Reading::run_at))]
 fn read_run<'a>(
     end: u64,
     later: u32,
@@ -103,7 +103,7 @@ fn read_runs(
 }
 
 /// The texts of a run body, so many.
-#[tactic(auto, unfolding(tt_value::specs::ColumnReading::run_values_at))]
+#[tactic(auto, unfolding(tt_value::specs::columns::Reading::run_values_at))]
 pub fn read_run_values(
     alloc: Global,
     end: u64,
@@ -126,7 +126,7 @@ fn is_below(before: &Option<TextRef<'_>>, value: &TextRef<'_>) -> bool
 }
 
 /// A distinct text, above the one before.
-#[tactic(auto, unfolding(tt_value::specs::ColumnReading::entry_at))]
+#[tactic(auto, unfolding(tt_value::specs::columns::Reading::entry_at))]
 fn read_entry<'a>(
     end: u64,
     before: &Option<TextRef<'a>>,
@@ -201,7 +201,7 @@ fn values_at_indexes<'a>(
 }
 
 /// The texts that a dictionary and indexes stand for.
-#[tactic(auto, unfolding(tt_value::specs::ColumnReading::looked_up))]
+#[tactic(auto, unfolding(tt_value::specs::columns::Reading::looked_up))]
 fn look_up<'a>(
     alloc: Global,
     place: u64,
@@ -222,7 +222,7 @@ fn look_up<'a>(
 }
 
 /// The texts of a dictionary body, so many.
-#[tactic(auto, unfolding(tt_value::specs::ColumnReading::dictionary_values_at))]
+#[tactic(auto, unfolding(tt_value::specs::columns::Reading::dictionary_values_at))]
 pub fn read_dictionary_values(
     alloc: Global,
     end: u64,

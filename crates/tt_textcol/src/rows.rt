@@ -2,8 +2,8 @@
 
 ghost use Rattle.std.specs.Prelude.{◌≡◌, ◌+◌, ◌-◌, ◌*◌, ◌^◌, ◌<◌, ◌≤◌, ◌==◌, List, ◌∷◌, length, drop, count_by, ℕ, Option, Ok, IfOk};
 ghost use Rattle.std.specs.List.{list_any, AllByRecursion};
-ghost use Rattle.tt_value.specs.ColumnBody.{present};
-ghost use Rattle.tt_value.specs.ColumnReading.{flags_at, has_flag, present_count, spread};
+ghost use Rattle.tt_value.specs.columns.Body.{present};
+ghost use Rattle.tt_value.specs.columns.Reading.{flags_at, has_flag, present_count, spread};
 ghost use Rattle.tt_textcol.specs.TextBody.{encoding_of, column_of, IsValue};
 ghost use Rattle.tt_textcol.specs.TextReading.{Gives, encoding_at, body_at, values_in, rows_of};
 
@@ -34,7 +34,7 @@ fn has_flag(flags: &[u64]) -> bool
 }
 
 /// The flags of a bitmap: 1 for NULL.
-#[tactic(auto, unfolding(tt_value::specs::ColumnReading::flags_at))]
+#[tactic(auto, unfolding(tt_value::specs::columns::Reading::flags_at))]
 fn read_flags(alloc: Global, rows: u32, nulls: bool, bitmap: &[u8]) -> Result<Vec<u64>, DecodeError>
     ensures { Gives (λ v. v.items) result (flags_at rows nulls bitmap.now) }
 {

@@ -2,7 +2,7 @@ ghost use Rattle.std.specs.Prelude.{◌≡◌, ◌≤◌, length, IfOk};
 ghost use Rattle.std.specs.Ordering.{as_partial_cmp, eq_by_cmp};
 ghost use Rattle.std.specs.Cmp.Rules.{comparing};
 ghost use Rattle.std.proofs.Common.{rules};
-ghost use Rattle.tt_value.specs.TextValue.{IsText};
+ghost use Rattle.tt_value.specs.values.Texts.{IsText};
 ghost use Rattle.tt_textcol.specs.TextBody.{text_cmp};
 ghost use Rattle.tt_textcol.specs.TextLaws.{text_total};
 
@@ -20,7 +20,7 @@ pub struct TextRef<'a> {
 impl<'a> Model for TextRef<'a> {
     ghost use Rattle.std.specs.Prelude.{List, ℕ};
     ghost use Rattle.std.specs.Coded.{coded_list, coded_ℕ};
-    ghost use Rattle.tt_value.specs.TextValue.{IsText};
+    ghost use Rattle.tt_value.specs.values.Texts.{IsText};
 
     ghost Value = { List ℕ };
 

@@ -1,7 +1,7 @@
 //! Writing a whole column.
 
 ghost use Rattle.std.specs.Prelude.{◌≡◌, ◌^◌, ◌<◌, length, map, IfOk};
-ghost use Rattle.tt_value.specs.ColumnBody.{null_flag as flag_of, null_flags, has_null as null_test, present as values_of, bitmap_of};
+ghost use Rattle.tt_value.specs.columns.Body.{null_flag as flag_of, null_flags, has_null as null_test, present as values_of, bitmap_of};
 ghost use Rattle.tt_textcol.specs.TextBody.{column_of};
 
 use crate::bodies::body_of;

@@ -5,8 +5,8 @@ use Rattle.jiff_core.specs.declared.civil.date.Date.{Date}
 use Rattle.jiff_core.specs.Calendar.{days_from_civil, IsCivilDate, IsDate}
 use Rattle.jiff_core.specs.Date.{epoch_day, IsYmd}
 use Rattle.jiff_core.proofs.SignedLemmas.{signed_arith}
-use Rattle.tt_value.specs.Calendar.{IsCivil, date_of, IsDay}
-use Rattle.tt_value.specs.CalendarLaws.{number, made, same_months, numbered, day_is}
+use Rattle.tt_value.specs.calendar.Calendar.{IsCivil, date_of, IsDay}
+use Rattle.tt_value.proofs.calendar.DayNumbers.{number, made, same_months, numbered, day_is}
 
 -- a date that the library refuses is no day's
 pub refused : (y m a : ℕ) (n : ℤ) → y ≤ 9999 → m ≤ 99 → a ≤ 99 → IsDay n → date_of n ≡ record { year = y; month = m; day = a } → IsDate (to_z w16 y) (to_z w8 m) (to_z w8 a)

@@ -4,7 +4,7 @@ use Rattle.std.specs.Char.{is_ascii_digit}
 use Rattle.std.proofs.lemmas.Bool.{cases_Bool, eqb-true}
 use Rattle.std.proofs.lemmas.Bool.Decides.{nat_tests}
 use Rattle.std.proofs.lemmas.List.Elements.{All-from_recursion}
-use Rattle.tt_value.specs.Calendar.{IsFraction, fraction_text, milliseconds}
+use Rattle.tt_value.specs.calendar.Calendar.{IsFraction, fraction_text, milliseconds}
 use Rattle.tt_time.specs.Tails.{end_at, zone_at, third_digit_at, second_digit_at, first_digit_at, tail_at}
 
 digit_back : (b : ℕ) → is_ascii_digit b ≡ true → (b - 48 ≤ 9) × (48 + (b - 48) ≡ b)

@@ -2,10 +2,10 @@
 use Rattle.std.proofs.Common.{◌≡◌, ℕ, List, Option, Some, None, Result, Ok, Err, refl, sym, ap, ◌∙◌, ℤ, ◌↔◌}
 use Rattle.std.specs.Prelude.{IfOk}
 use Rattle.std.specs.Result.{result_ok}
-use Rattle.tt_value.specs.Calendar.{IsDay, day_text, Timestamp, IsTimestamp, timestamp_text, moment_of}
-use Rattle.tt_value.specs.CalendarReading.{day_of, timestamp_of}
-use Rattle.tt_value.specs.CalendarReadingLaws.{day_of-written, day_of-read}
-use Rattle.tt_value.specs.TimestampLaws.{timestamp_of-written, timestamp_of-read}
+use Rattle.tt_value.specs.calendar.Calendar.{IsDay, day_text, Timestamp, IsTimestamp, timestamp_text, moment_of}
+use Rattle.tt_value.specs.calendar.Reading.{day_of, timestamp_of}
+use Rattle.tt_value.proofs.calendar.Dates.{day_of-written, day_of-read}
+use Rattle.tt_value.proofs.calendar.Timestamps.{timestamp_of-written, timestamp_of-read}
 
 pub day_law : (text : List ℕ) (day : ℤ) → (day_of text ≡ Some day) ↔ (IsDay day × (text ≡ day_text day))
 day_law text day = (day_of-read text day, λ h. ap day_of h.1 ∙ day_of-written day h.0)

@@ -2,7 +2,7 @@
 use Rattle.std.proofs.Common.{◌≡◌, ℕ, ◌+◌, ◌*◌, ◌≤◌, List, [], ◌∷◌, ◌++◌, Option, Some, None, ◌⊎◌, sym, ap, ◌∙◌, arith, ℤ, pos, ◌+ℤ◌, ◌*ℤ◌, FitsSigned, w32, w64, to_z, of_z}
 use Rattle.std.proofs.lemmas.Int.{to_z-of_z, to_z_pos}
 use Rattle.jiff_core.proofs.SignedLemmas.{signed_arith}
-use Rattle.tt_value.specs.Calendar.{IsDay, day_text, Clock, IsClock, clock_text, seconds_of, IsFraction, fraction_text, milliseconds, Timestamp, IsTimestamp, timestamp_text, moment_of}
+use Rattle.tt_value.specs.calendar.Calendar.{IsDay, day_text, Clock, IsClock, clock_text, seconds_of, IsFraction, fraction_text, milliseconds, Timestamp, IsTimestamp, timestamp_text, moment_of}
 use Rattle.tt_time.specs.Tails.{tail_at}
 use Rattle.tt_time.proofs.Fractions.{tail_read, tail_written}
 use Rattle.tt_time.proofs.Spelling.{day_one, clock_one}

@@ -1,7 +1,7 @@
 -- A date or a timestamp is written in one way: what is written tells its parts.
 use Rattle.std.proofs.Common.{◌≡◌, ℕ, ◌+◌, ◌/◌, ◌%◌, ◌≤◌, List, ◌∷◌, ◌++◌, ap, ◌∙◌, arith, ℤ}
-use Rattle.tt_value.specs.Calendar.{CivilDate, IsCivil, IsDay, date_of, two_digits, four_digits, date_text, day_text, days_in_month, Clock, IsClock, clock_text}
-use Rattle.tt_value.specs.CalendarLaws.{numbered, one_day, same_parts}
+use Rattle.tt_value.specs.calendar.Calendar.{CivilDate, IsCivil, IsDay, date_of, two_digits, four_digits, date_text, day_text, days_in_month, Clock, IsClock, clock_text}
+use Rattle.tt_value.proofs.calendar.DayNumbers.{numbered, one_day, same_parts}
 
 pub two_one : (a b : ℕ) (r s : List ℕ) → a ≤ 99 → b ≤ 99 → two_digits a ++ r ≡ two_digits b ++ s → (a ≡ b) × (r ≡ s)
 two_one a b r s la lb e =

@@ -1,9 +1,9 @@
 //! Dates.
 
 ghost use Rattle.std.specs.Prelude.{◌≡◌, ◌≢◌, ℕ, ◌+◌, ◌≤◌, List, ◌++◌, ℤ, IfSome, IfNone, IfOk, OnOk, OnErr, Ok};
-ghost use Rattle.tt_value.specs.Calendar.{IsDay, date_of, day_text};
+ghost use Rattle.tt_value.specs.calendar.Calendar.{IsDay, date_of, day_text};
 ghost use Rattle.std.specs.Result.{result_ok};
-ghost use Rattle.tt_value.specs.CalendarReading.{day_of};
+ghost use Rattle.tt_value.specs.calendar.Reading.{day_of};
 
 use crate::BadDate;
 use crate::digits::{after, four_digits, two_digits};

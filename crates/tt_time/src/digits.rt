@@ -1,7 +1,7 @@
 //! Numbers of a fixed length at the front of a text.
 
 ghost use Rattle.std.specs.Prelude.{◌≡◌, ◌≢◌, ℕ, ◌+◌, ◌≤◌, List, ◌∷◌, ◌++◌, IfSome, IfNone};
-ghost use Rattle.tt_value.specs.Calendar.{two_digits, four_digits};
+ghost use Rattle.tt_value.specs.calendar.Calendar.{two_digits, four_digits};
 
 /// A digit, and what stands behind it.
 pub fn digit_of(bytes: &[u8]) -> Option<(u8, &[u8])>

@@ -1,8 +1,8 @@
 //! Laws of the calendar. They compute nothing.
 
 ghost use Rattle.std.specs.Prelude.{◌≡◌, ℕ, List, ℤ, pos, Some, ◌↔◌};
-ghost use Rattle.tt_value.specs.Calendar.{CivilDate, IsCivil, IsDay, date_of, day_text, Timestamp, IsTimestamp, timestamp_text, moment_of};
-ghost use Rattle.tt_value.specs.CalendarReading.{day_of, timestamp_of};
+ghost use Rattle.tt_value.specs.calendar.Calendar.{CivilDate, IsCivil, IsDay, date_of, day_text, Timestamp, IsTimestamp, timestamp_text, moment_of};
+ghost use Rattle.tt_value.specs.calendar.Reading.{day_of, timestamp_of};
 
 /// Day 0 is 1970-01-01. Each day is a date of the years 1 to 9999, each such date is a day's, and no two days
 /// have the same date or are written alike.

@@ -1,10 +1,10 @@
 //! Timestamps.
 
 ghost use Rattle.std.specs.Prelude.{◌≡◌, ◌≢◌, ℕ, ◌+◌, ◌*◌, ◌<◌, ◌≤◌, List, ◌++◌, IfSome, IfNone, IfOk, Ok};
-ghost use Rattle.tt_value.specs.Calendar.{Timestamp, IsTimestamp, timestamp_text, moment_of, Clock, IsClock, clock_text, seconds_of};
+ghost use Rattle.tt_value.specs.calendar.Calendar.{Timestamp, IsTimestamp, timestamp_text, moment_of, Clock, IsClock, clock_text, seconds_of};
 ghost use Rattle.tt_time.specs.Tails.{first_digit_at, second_digit_at, third_digit_at, zone_at, tail_at};
 ghost use Rattle.std.specs.Result.{result_ok};
-ghost use Rattle.tt_value.specs.CalendarReading.{timestamp_of};
+ghost use Rattle.tt_value.specs.calendar.Reading.{timestamp_of};
 
 use crate::BadTimestamp;
 use crate::dates::date_at;

@@ -17,9 +17,9 @@ use Rattle.tt_value.specs.declared.value.Row.{Row}
 use Rattle.tt_value.specs.declared.name.Name.{Name}
 use Rattle.tt_value.specs.declared.name.Literal.{Literal}
 use Rattle.tt_value.specs.declared.name.TableName.{TableName}
-use Rattle.tt_value.specs.Scope.{Scope}
-use Rattle.tt_value.specs.ExpressionMeaning.{value_of}
-use Rattle.tt_value.specs.PredicateMeaning.{takes}
+use Rattle.tt_value.specs.trees.Scope.{Scope}
+use Rattle.tt_value.specs.trees.Expressions.{value_of}
+use Rattle.tt_value.specs.trees.Predicates.{takes}
 use Rattle.tt_sql.specs.declared.query.Query.{Query}
 use Rattle.tt_sql.specs.declared.query.Item.{Item}
 use Rattle.tt_sql.specs.declared.change.Dml.{Dml}

@@ -1,9 +1,9 @@
 -- A text is a day or it is none.
 use Rattle.std.proofs.Common.{◌≡◌, ℕ, List, true, false, is_some, Option, Some, None, Ok, Err, refl, ap, sym, ◌∙◌, subst, ℤ}
 use Rattle.std.specs.Prelude.{Result, MatchResult}
-use Rattle.tt_value.specs.Calendar.{IsDay, day_text}
-use Rattle.tt_value.specs.CalendarReading.{day_of}
-use Rattle.tt_value.specs.CalendarReadingLaws.{day_of-written, day_of-read}
+use Rattle.tt_value.specs.calendar.Calendar.{IsDay, day_text}
+use Rattle.tt_value.specs.calendar.Reading.{day_of}
+use Rattle.tt_value.proofs.calendar.Dates.{day_of-written, day_of-read}
 
 pub is_day : (text : List ℕ) (day : ℤ) → IsDay day → text ≡ day_text day → true ≡ is_some (day_of text)
 is_day text day within is = sym (ap (λ t. is_some (day_of t)) is ∙ ap is_some (day_of-written day within))

@@ -17,8 +17,8 @@ use Rattle.tt_value.specs.declared.expression.Addend.{Addend}
 use Rattle.tt_value.specs.declared.expression.Term.{Term}
 use Rattle.tt_value.specs.declared.expression.Factor.{Factor}
 use Rattle.tt_value.specs.declared.expression.Factor.TheVariants as factor
-use Rattle.tt_value.specs.Scope.{Scope}
-use Rattle.tt_value.specs.ExpressionMeaning.{on_numbers, negated, then_both, add_signed, factor_value, value_of}
+use Rattle.tt_value.specs.trees.Scope.{Scope}
+use Rattle.tt_value.specs.trees.Expressions.{on_numbers, negated, then_both, add_signed, factor_value, value_of}
 use Rattle.tt_plain.specs.Kinds.{fits, unless}
 use Rattle.tt_plain.specs.Places.{each}
 use Rattle.tt_plain.specs.Expressions.{Part, calculated, joined, part_of, part_of_term, part_of_factor}

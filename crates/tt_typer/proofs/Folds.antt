@@ -10,7 +10,7 @@ use Rattle.tt_value.specs.declared.expression.Factor.TheVariants as factor
 use Rattle.tt_value.specs.declared.expression.Factor.TheVariants.{rolls-Literal, rolls-Column, rolls-Bracket, rolls-Negated}
 use Rattle.tt_value.specs.declared.name.Literal.{Literal}
 use Rattle.tt_value.specs.declared.name.ColumnName.{ColumnName}
-use Rattle.tt_value.specs.Scope.{Scope, column_kind, kind_of}
+use Rattle.tt_value.specs.trees.Scope.{Scope, column_kind, kind_of}
 use Rattle.tt_plain.specs.Places.{each, column_begin}
 use Rattle.tt_plain.specs.Expressions.{Step, Part, calculated, joined, factor_part, sum_part, term_part, part_of, part_of_term, part_of_factor}
 use Rattle.tt_plain.specs.Kinds.{fits, unless}

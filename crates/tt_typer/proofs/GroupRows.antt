@@ -7,9 +7,9 @@ use Rattle.std.proofs.lemmas.Option.{same_Some}
 use Rattle.std.proofs.lemmas.List.Elements.{All-from_recursion}
 use Rattle.tt_value.specs.declared.value.Row.{Row}
 use Rattle.tt_value.specs.declared.name.ColumnName.{ColumnName}
-use Rattle.tt_value.specs.Order.{is_same_row}
-use Rattle.tt_value.specs.OrderLaws.{row_eq-Decides}
-use Rattle.tt_value.specs.Scope.{Scope}
+use Rattle.tt_value.specs.values.Order.{is_same_row}
+use Rattle.tt_value.proofs.values.Ties.{row_eq-Decides}
+use Rattle.tt_value.specs.trees.Scope.{Scope}
 use Rattle.tt_sql.specs.declared.query.Query.{Query}
 use Rattle.tt_sql.specs.declared.query.Selection.{Selection}
 use Rattle.tt_sql.specs.declared.query.Selection.TheVariants as selection

@@ -10,7 +10,7 @@ use Rattle.tt_value.specs.declared.value.Value.TheVariants.{Null, Int, Date, Tex
 use Rattle.tt_value.specs.declared.value.Column.{Column}
 use Rattle.tt_value.specs.declared.value.Row.{Row}
 use Rattle.tt_value.specs.declared.name.ColumnName.{ColumnName}
-use Rattle.tt_value.specs.Scope.{Scope, column_in, column_kind, column_value, value_or_null, kind_of}
+use Rattle.tt_value.specs.trees.Scope.{Scope, column_in, column_kind, column_value, value_or_null, kind_of}
 use Rattle.tt_plain.specs.Kinds.{fits, unless}
 use Rattle.tt_plain.specs.Places.{each, where_none, column_begin}
 use Rattle.tt_plain.specs.UnknownColumns.{unknown_name}

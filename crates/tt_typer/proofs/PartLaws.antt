@@ -4,7 +4,7 @@ use Rattle.tt_value.specs.declared.value.Kind.TheVariants as kinds
 use Rattle.tt_value.specs.declared.expression.Expr.{Expr, out-Expr}
 use Rattle.tt_value.specs.declared.expression.Term.{Term}
 use Rattle.tt_value.specs.declared.expression.Addend.{Addend}
-use Rattle.tt_value.specs.Scope.{Scope}
+use Rattle.tt_value.specs.trees.Scope.{Scope}
 use Rattle.tt_plain.specs.Places.{leftmost, each}
 use Rattle.tt_plain.specs.Kinds.{fits, unless}
 use Rattle.tt_plain.specs.Expressions as spec

@@ -21,10 +21,10 @@ use Rattle.tt_value.specs.declared.predicate.Predicate.{Predicate, out-Predicate
 use Rattle.tt_value.specs.declared.predicate.Conjunction.{Conjunction}
 use Rattle.tt_value.specs.declared.predicate.Unit.{Unit}
 use Rattle.tt_value.specs.declared.predicate.Unit.TheVariants as unit
-use Rattle.tt_value.specs.CalendarReading.{day_of}
-use Rattle.tt_value.specs.Scope.{Scope, column_value, column_kind, kind_of, beside, date_or_null}
-use Rattle.tt_value.specs.Truths.{truth_of_bool, not_truth, and_truth, or_truth, not_if}
-use Rattle.tt_value.specs.PredicateMeaning.{is_null, compared, begins, operand_kind, operand_value, comparison_truth, unit_truth, truth_of}
+use Rattle.tt_value.specs.calendar.Reading.{day_of}
+use Rattle.tt_value.specs.trees.Scope.{Scope, column_value, column_kind, kind_of, beside, date_or_null}
+use Rattle.tt_value.specs.trees.Truths.{truth_of_bool, not_truth, and_truth, or_truth, not_if}
+use Rattle.tt_value.specs.trees.Predicates.{is_null, compared, begins, operand_kind, operand_value, comparison_truth, unit_truth, truth_of}
 use Rattle.tt_plain.specs.Kinds.{fits, literal_fits, unless, is_date_kind, is_text}
 use Rattle.tt_plain.specs.Places.{each, column_begin}
 use Rattle.tt_plain.specs.UnknownColumns.{unknown_in_operand, unknown_in_unit, unknown_in_conjunction, unknown_in_predicate}

@@ -18,10 +18,10 @@ use Rattle.tt_value.specs.declared.name.ColumnName.{ColumnName}
 use Rattle.tt_value.specs.declared.name.Number.{Number}
 use Rattle.tt_value.specs.declared.name.Literal.{Literal}
 use Rattle.tt_value.specs.declared.expression.Expr.{Expr}
-use Rattle.tt_value.specs.Order.{value_cmp, is_same_row}
-use Rattle.tt_value.specs.Scope.{Scope, column_in, column_kind, column_value, kind_of}
-use Rattle.tt_value.specs.ExpressionMeaning.{value_of}
-use Rattle.tt_value.specs.PredicateMeaning.{is_null, takes}
+use Rattle.tt_value.specs.values.Order.{value_cmp, is_same_row}
+use Rattle.tt_value.specs.trees.Scope.{Scope, column_in, column_kind, column_value, kind_of}
+use Rattle.tt_value.specs.trees.Expressions.{value_of}
+use Rattle.tt_value.specs.trees.Predicates.{is_null, takes}
 use Rattle.tt_sql.specs.declared.query.Query.{Query}
 use Rattle.tt_sql.specs.declared.query.Selection.{Selection}
 use Rattle.tt_sql.specs.declared.query.Selection.TheVariants as selection

@@ -14,9 +14,9 @@ use Rattle.tt_value.specs.declared.name.Name.{Name}
 use Rattle.tt_value.specs.declared.name.TableName.{TableName}
 use Rattle.tt_value.specs.declared.name.ColumnName.{ColumnName}
 use Rattle.tt_value.specs.declared.predicate.Predicate.{Predicate}
-use Rattle.tt_value.specs.Scope.{Scope, column_kind, column_value, kind_of}
-use Rattle.tt_value.specs.ExpressionMeaning.{value_of}
-use Rattle.tt_value.specs.PredicateMeaning.{is_null, truth_of}
+use Rattle.tt_value.specs.trees.Scope.{Scope, column_kind, column_value, kind_of}
+use Rattle.tt_value.specs.trees.Expressions.{value_of}
+use Rattle.tt_value.specs.trees.Predicates.{is_null, truth_of}
 use Rattle.tt_sql.specs.declared.query.Query.{Query}
 use Rattle.tt_sql.specs.declared.query.Selection.{Selection}
 use Rattle.tt_sql.specs.declared.query.Selection.TheVariants as selection

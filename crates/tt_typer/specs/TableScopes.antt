@@ -1,5 +1,5 @@
 -- What the names of columns mean over one table.
-use Rattle.tt_value.specs.Scope.{Scope}
+use Rattle.tt_value.specs.trees.Scope.{Scope}
 use Rattle.tt_sql.specs.Scopes.{target_scope}
 use Rattle.tt_typer.specs.declared.scope.TableScope.{TableScope}
 

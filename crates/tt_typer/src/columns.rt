@@ -2,7 +2,7 @@
 
 ghost use Rattle.std.specs.Prelude.{◌≡◌};
 ghost use Rattle.std.specs.Option.{option_copied};
-ghost use Rattle.tt_value.specs.Scope.{column_place as place_in};
+ghost use Rattle.tt_value.specs.trees.Scope.{column_place as place_in};
 ghost use Rattle.tt_plain.specs.Columns as spec;
 
 use sqlite_items::Items;

@@ -1,8 +1,8 @@
 //! When kinds fit.
 
 ghost use Rattle.std.specs.Prelude.{◌≡◌, is_some};
-ghost use Rattle.tt_value.specs.Scope as scope;
-ghost use Rattle.tt_value.specs.CalendarReading.{day_of};
+ghost use Rattle.tt_value.specs.trees.Scope as scope;
+ghost use Rattle.tt_value.specs.calendar.Reading.{day_of};
 ghost use Rattle.tt_plain.specs.Places.{leftmost};
 ghost use Rattle.tt_plain.specs.Kinds as spec;
 

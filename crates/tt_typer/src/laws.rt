@@ -9,14 +9,14 @@ ghost use Rattle.tt_value.specs.declared.value.Value.TheVariants.{Int, Date, Tex
 ghost use Rattle.tt_value.specs.declared.value.Kind.TheVariants as kinds;
 ghost use Rattle.tt_value.specs.declared.expression.Sign.{Sign as SignValue};
 ghost use Rattle.tt_value.specs.declared.predicate.Comparison.{Comparison as ComparisonValue};
-ghost use Rattle.tt_value.specs.CalendarReading.{day_of};
+ghost use Rattle.tt_value.specs.calendar.Reading.{day_of};
 ghost use Rattle.tt_value.specs.declared.value.Column.{Column as ColumnValue};
 ghost use Rattle.tt_value.specs.declared.name.Name.{Name as NameValue};
 ghost use Rattle.tt_value.specs.declared.expression.Expr.{Expr as ExprValue};
 ghost use Rattle.tt_value.specs.declared.predicate.Predicate.{Predicate as PredicateValue};
-ghost use Rattle.tt_value.specs.Scope.{Scope, column_value};
-ghost use Rattle.tt_value.specs.ExpressionMeaning.{value_of};
-ghost use Rattle.tt_value.specs.PredicateMeaning.{truth_of};
+ghost use Rattle.tt_value.specs.trees.Scope.{Scope, column_value};
+ghost use Rattle.tt_value.specs.trees.Expressions.{value_of};
+ghost use Rattle.tt_value.specs.trees.Predicates.{truth_of};
 ghost use Rattle.tt_sql.specs.declared.query.Query.{Query as QueryValue};
 ghost use Rattle.tt_sql.specs.declared.query.Item.{Item as ItemValue};
 ghost use Rattle.tt_sql.specs.declared.query.Selection.TheVariants as selection;

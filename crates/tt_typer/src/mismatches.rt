@@ -2,7 +2,7 @@
 
 ghost use Rattle.std.specs.Prelude.{◌≡◌, ◌++◌, [], if◌then◌else◌};
 ghost use Rattle.tt_typer.specs.TableScopes.{scope_in};
-ghost use Rattle.tt_value.specs.PredicateMeaning.{operand_kind as kind_of_operand};
+ghost use Rattle.tt_value.specs.trees.Predicates.{operand_kind as kind_of_operand};
 ghost use Rattle.tt_plain.specs.Places.{each, if_there, leftmost};
 ghost use Rattle.std.specs.List.{list_any};
 ghost use Rattle.tt_sql.specs.QueryMeaning.{is_aggregate as is_aggregate_of, has_aggregate as has_aggregate_of};

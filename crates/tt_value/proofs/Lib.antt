@@ -1,9 +1,3 @@
-pub mod Accepted
-pub mod Again
-pub mod Counting
-pub mod Distinct
-pub mod Indexes
-pub mod Lookups
-pub mod PackingLaws
-pub mod ReadingLoops
-pub mod RunLaws
+pub mod calendar
+pub mod columns
+pub mod values

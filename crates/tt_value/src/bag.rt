@@ -2,7 +2,7 @@
 
 ghost use Rattle.std.specs.Prelude.{◌≡◌, ◌+◌, ◌-◌, ◌++◌, List, IfOk};
 ghost use Rattle.tt_value.specs.declared.value.Row.{Row};
-ghost use Rattle.tt_value.specs.BagRows.{IsBag, bag_of, bag_plus, bag_minus, copies_of};
+ghost use Rattle.tt_value.specs.values.Bags.{IsBag, bag_of, bag_plus, bag_minus, copies_of};
 
 use crate::order::compare_rows;
 use crate::value::Row;
@@ -19,7 +19,7 @@ pub struct Bag {
 impl Model for Bag {
     ghost use Rattle.std.specs.Prelude.{List};
     ghost use Rattle.tt_value.specs.declared.value.Row.{Row};
-    ghost use Rattle.tt_value.specs.BagRows.{IsBag};
+    ghost use Rattle.tt_value.specs.values.Bags.{IsBag};
 
     ghost Value = { List Row };
 

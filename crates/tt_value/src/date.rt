@@ -1,7 +1,7 @@
 //! How dates are written.
 
 ghost use Rattle.std.specs.Prelude.{◌≡◌, ◌≤◌, ◌++◌, OnOk, OnErr};
-ghost use Rattle.tt_value.specs.Calendar.{IsDay, date_of, date_text, day_text};
+ghost use Rattle.tt_value.specs.calendar.Calendar.{IsDay, date_of, date_text, day_text};
 
 use jiff_core::civil;
 use std::alloc::AllocError;

@@ -5,14 +5,14 @@ ghost use Rattle.std.specs.Cmp.{IsTotalOrder, partial_order_from_own_ties};
 ghost use Rattle.std.specs.Ordering.{as_partial_cmp, eq_by_cmp};
 ghost use Rattle.std.specs.Cmp.Rules.{comparing};
 ghost use Rattle.std.proofs.Common.{rules};
-ghost use Rattle.tt_value.specs.Order.{value_cmp, row_cmp, TiesAreSame, kind_rank as rank, number_of, bytes_of};
-ghost use Rattle.tt_value.specs.OrderLaws.{value_total, row_total};
+ghost use Rattle.tt_value.specs.values.Order.{value_cmp, row_cmp, TiesAreSame, kind_rank as rank, number_of, bytes_of};
+ghost use Rattle.tt_value.specs.values.TotalOrder.{value_total, row_total};
 
 use crate::value::{Row, Value};
 use std::cmp::Ordering;
 
 /// The order of values: integers, dates, texts by their bytes, and NULL above all.
-#[tactic(auto, unfolding(crate::specs::Order::value_cmp))]
+#[tactic(auto, unfolding(crate::specs::values::Order::value_cmp))]
 pub fn compare(a: &Value, b: &Value) -> Ordering
     ensures { result ≡ value_cmp a.now b.now }
 {
@@ -52,7 +52,7 @@ fn bytes(value: &Value) -> &[u8]
 }
 
 /// The order of rows: value by value, and a row before what extends it.
-#[tactic(auto, unfolding(crate::specs::Order::row_cmp))]
+#[tactic(auto, unfolding(crate::specs::values::Order::row_cmp))]
 pub fn compare_rows(a: &Row, b: &Row) -> Ordering
     ensures { result ≡ row_cmp a.now b.now }
 {

@@ -2,7 +2,7 @@
 
 ghost use Rattle.std.specs.Prelude.{◌≡◌, ℕ, ◌+◌, ◌-◌, ◌*◌, ◌/◌, ◌%◌, ◌^◌, ◌<◌, ◌≤◌, ◌++◌, ◌==◌, All, IfOk, OnOk, MatchOption, length};
 ghost use Rattle.std.specs.List.{list_all};
-ghost use Rattle.tt_value.specs.Packing.{joined, digits, bytes_for, packed, width_of};
+ghost use Rattle.tt_value.specs.columns.Packing.{joined, digits, bytes_for, packed, width_of};
 
 use std::alloc::{AllocError, Global};
 

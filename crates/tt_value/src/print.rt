@@ -2,7 +2,7 @@
 
 ghost use Rattle.std.specs.Prelude.{◌≡◌, ◌++◌, ◌∷◌, [], OnOk, OnErr};
 ghost use Rattle.std.specs.Fmt.{signed_decimal};
-ghost use Rattle.tt_value.specs.RowText.{IsPrintable, IsPrintableValue, Extends, row_text, value_text, quotes_doubled};
+ghost use Rattle.tt_value.specs.values.RowText.{IsPrintable, IsPrintableValue, Extends, row_text, value_text, quotes_doubled};
 
 use crate::date::write_date;
 use crate::value::{Row, Value};

@@ -5,7 +5,7 @@ ghost use Rattle.std.specs.Str.{bytes_eq};
 ghost use Rattle.std.specs.Cmp.{partial_equiv_from_equiv};
 ghost use Rattle.std.specs.Cmp.Lexicographic.{nat_list_eq_equiv};
 ghost use Rattle.std.specs.List.{position};
-ghost use Rattle.tt_value.specs.TextValue.{IsText, IsPrintableAscii, RefusesText, is_control as control_test};
+ghost use Rattle.tt_value.specs.values.Texts.{IsText, IsPrintableAscii, RefusesText, is_control as control_test};
 ghost use Rattle.tt_value.specs.declared.text.BadText.TheVariants.{Memory};
 
 use std::alloc::{AllocError, Global};
@@ -39,7 +39,7 @@ pub struct Text {
 
 impl Model for Text {
     ghost use Rattle.std.specs.Prelude.{List, ℕ, string_bytes};
-    ghost use Rattle.tt_value.specs.TextValue.{IsText};
+    ghost use Rattle.tt_value.specs.values.Texts.{IsText};
 
     ghost Value = { List ℕ };
 

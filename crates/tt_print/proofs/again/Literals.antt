@@ -7,9 +7,9 @@ use Rattle.std.proofs.lemmas.List.{length-append}
 use Rattle.std.proofs.Math.Seq.{take-append_seam}
 use Rattle.std.proofs.lemmas.Int.{ints}
 use Rattle.tt_lex.specs.declared.TokenKind.TheVariants as kinds
-use Rattle.tt_value.specs.Calendar.{IsDay, day_text}
-use Rattle.tt_value.specs.CalendarReading.{digits_value, day_of}
-use Rattle.tt_value.specs.CalendarReadingLaws.{day_of-written}
+use Rattle.tt_value.specs.calendar.Calendar.{IsDay, day_text}
+use Rattle.tt_value.specs.calendar.Reading.{digits_value, day_of}
+use Rattle.tt_value.proofs.calendar.Dates.{day_of-written}
 use Rattle.tt_value.specs.declared.value.Value.{Value}
 use Rattle.tt_value.specs.declared.value.Value.TheVariants.{Null, Int, Date, Text}
 use Rattle.tt_sql.specs.Grammar.{Lexeme, Way, At, Said, Meant, Tok, Note, Spells, token, note, both, is_of}

@@ -7,9 +7,9 @@ use Rattle.std.proofs.lemmas.Fmt.{length-decimal-le}
 use Rattle.std.proofs.lemmas.Int.{ints}
 use Rattle.std.proofs.lemmas.List.Elements.{All-from_recursion}
 use Rattle.tt_lex.specs.declared.TokenKind.TheVariants as kinds
-use Rattle.tt_value.specs.Calendar.{IsClock, seconds_of, IsFraction, milliseconds, IsTimestamp, timestamp_text, moment_of}
-use Rattle.tt_value.specs.CalendarReading.{day_of, timestamp_of}
-use Rattle.tt_value.specs.TimestampLaws.{timestamp_of-written}
+use Rattle.tt_value.specs.calendar.Calendar.{IsClock, seconds_of, IsFraction, milliseconds, IsTimestamp, timestamp_text, moment_of}
+use Rattle.tt_value.specs.calendar.Reading.{day_of, timestamp_of}
+use Rattle.tt_value.proofs.calendar.Timestamps.{timestamp_of-written}
 use Rattle.tt_value.specs.declared.name.Number.{Number}
 use Rattle.tt_sql.specs.declared.query.Clause.{Clause}
 use Rattle.tt_sql.specs.declared.query.Moment.{Moment}

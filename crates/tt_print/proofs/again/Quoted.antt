@@ -11,8 +11,8 @@ use Rattle.std.proofs.lemmas.Str.Parse.{IsNumeralModel, FoldsDigits, numerals_by
 use Rattle.std.proofs.lemmas.List.{length-append}
 use Rattle.std.proofs.Math.Seq.{take-append_seam}
 use Rattle.tt_lex.specs.declared.TokenKind.TheVariants as kinds
-use Rattle.tt_value.specs.CalendarReading.{digits_value, day_of, timestamp_of}
-use Rattle.tt_value.specs.RowText.{quotes_doubled}
+use Rattle.tt_value.specs.calendar.Reading.{digits_value, day_of, timestamp_of}
+use Rattle.tt_value.specs.values.RowText.{quotes_doubled}
 use Rattle.tt_sql.specs.Grammar.{Lexeme, Way, Said, Meant, Tok, Note, Both, Spells, token, note, both, right, is_of}
 use Rattle.tt_sql.specs.Read.{written_rule}
 use Rattle.tt_sql.specs.Parts.{◌▸◌, ◌∣◌, one, number, quoted as quoted_part, as_number}

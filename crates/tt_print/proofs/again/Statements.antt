@@ -6,7 +6,7 @@ use Rattle.std.specs.Char.{is_ascii_digit}
 use Rattle.std.proofs.lemmas.Bool.{cases_Bool, and_parts, false≢true}
 use Rattle.tt_lex.specs.declared.TokenKind.TheVariants as kinds
 use Rattle.tt_lex.specs.Lexis.{is_word_start, is_word_part}
-use Rattle.tt_value.specs.CalendarReading.{has_date_form, day_of, timestamp_of}
+use Rattle.tt_value.specs.calendar.Reading.{has_date_form, day_of, timestamp_of}
 use Rattle.tt_value.specs.declared.name.Name.{Name}
 use Rattle.tt_value.specs.declared.name.TableName.{TableName}
 use Rattle.tt_sql.specs.declared.change.Dml.{Dml}

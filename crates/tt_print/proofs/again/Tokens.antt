@@ -11,9 +11,9 @@ use Rattle.std.proofs.lemmas.Fmt.{decimal_nonempty, digits_decimal}
 use Rattle.std.proofs.lemmas.Slice.Eq.{bytes_eq-Decides}
 use Rattle.tt_lex.specs.declared.TokenKind.TheVariants as kinds
 use Rattle.tt_lex.specs.Lexis.{Word, Number, Quoted, Sign, is_word_start, is_word_part, is_text_byte, is_sign, is_quote, doubled}
-use Rattle.tt_value.specs.Calendar.{IsDay, IsCivil, CivilDate, date_of, date_text, day_text, days_in_month, two_digits, Clock, IsClock, clock_text}
-use Rattle.tt_value.specs.CalendarLaws.{numbered}
-use Rattle.tt_value.specs.RowText.{quotes_doubled}
+use Rattle.tt_value.specs.calendar.Calendar.{IsDay, IsCivil, CivilDate, date_of, date_text, day_text, days_in_month, two_digits, Clock, IsClock, clock_text}
+use Rattle.tt_value.proofs.calendar.DayNumbers.{numbered}
+use Rattle.tt_value.specs.values.RowText.{quotes_doubled}
 use Rattle.tt_sql.specs.TokenKinds.{NAME, LONG_NAME, reserved_words, other_words, place_in, is_word, is_name, word_kind, undoubled}
 use Rattle.tt_print.specs.text.Words.{Words, quoted}
 use Rattle.tt_print.specs.again.Tokens.{IsToken, AreTokens}

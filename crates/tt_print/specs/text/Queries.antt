@@ -1,7 +1,7 @@
 -- The words of queries, and of the moments at which they read.
 use Rattle.std.specs.Prelude.{ℕ, ◌/◌, ◌%◌, Bool, ◌&&◌, if◌then◌else◌, List, [], ◌∷◌, ◌++◌, map, codes, ℤ, pos, neg_ℤ, ◌+ℤ◌, ◌-ℤ◌, unsigned_abs, int_le}
 use Rattle.std.specs.List.{flat_map}
-use Rattle.tt_value.specs.Calendar.{Timestamp, Clock, timestamp_text, clock_text, fraction_text}
+use Rattle.tt_value.specs.calendar.Calendar.{Timestamp, Clock, timestamp_text, clock_text, fraction_text}
 use Rattle.tt_value.specs.declared.name.ColumnName.{ColumnName}
 use Rattle.tt_sql.specs.declared.query.Query.{Query}
 use Rattle.tt_sql.specs.declared.query.Selection.{Selection}

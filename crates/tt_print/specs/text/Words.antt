@@ -2,8 +2,8 @@
 use Rattle.std.specs.Prelude.{ℕ, suc, Bool, true, false, ◌&&◌, if◌then◌else◌, List, [], ◌∷◌, ◌++◌, Option, Some, None, codes, ℤ, pos, negsuc, neg_ℤ, int_le}
 use Rattle.std.specs.Fmt.{decimal}
 use Rattle.std.specs.List.{flat_map}
-use Rattle.tt_value.specs.Calendar.{day_text}
-use Rattle.tt_value.specs.RowText.{quotes_doubled}
+use Rattle.tt_value.specs.calendar.Calendar.{day_text}
+use Rattle.tt_value.specs.values.RowText.{quotes_doubled}
 use Rattle.tt_value.specs.declared.value.Value.{Value}
 use Rattle.tt_value.specs.declared.value.Value.TheVariants.{Null, Int, Date, Text}
 use Rattle.tt_value.specs.declared.name.Name.{Name}

@@ -1,7 +1,7 @@
 //! The lines of entries and replies.
 
 ghost use Rattle.std.specs.Prelude.{All, IfOk};
-ghost use Rattle.tt_value.specs.RowText.{IsPrintable};
+ghost use Rattle.tt_value.specs.values.RowText.{IsPrintable};
 
 use super::{transcript, write_end, write_entries, write_journal_line, write_reply};
 use std::alloc::Global;

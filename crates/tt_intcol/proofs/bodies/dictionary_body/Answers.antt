@@ -1,10 +1,10 @@
 use Rattle.std.proofs.Common.{pos, length, ap, ◌∙◌, sym, ◌-◌, map, arith}
-use Rattle.tt_value.specs.ColumnBody.{index_in}
+use Rattle.tt_value.specs.columns.Body.{index_in}
 use Rattle.std.specs.Ordering.{int_cmp}
 use Rattle.std.proofs.lemmas.Cmp.{int_cmp_total}
 use Rattle.std.proofs.lemmas.Map.Lookups.{exact_signed}
-use Rattle.tt_value.specs.Packing.{width_of}
-use Rattle.tt_value.proofs.Indexes.{distinct_le, indexes_fit}
+use Rattle.tt_value.specs.columns.Packing.{width_of}
+use Rattle.tt_value.proofs.columns.Indexes.{distinct_le, indexes_fit}
 use Rattle.tt_intcol.proofs.bodies.dictionary_body.Goals as goal
 
 pub overflow_cast-len : goal.overflow_cast-len

@@ -1,5 +1,5 @@
 use Rattle.std.proofs.Common.{◌≡◌, ◌≤◌, ◌<◌, ◌^◌, ℕ, List, length, get_or, arith, ap, ◌∙◌}
-use Rattle.tt_value.proofs.Indexes.{at_most_greatest}
+use Rattle.tt_value.proofs.columns.Indexes.{at_most_greatest}
 use Rattle.tt_intcol.specs.IntBody.{greatest_of}
 use Rattle.tt_intcol.proofs.bodies.frame_body.Goals as goal
 

@@ -3,9 +3,9 @@ use Rattle.std.specs.Ordering.{int_cmp}
 use Rattle.std.proofs.lemmas.Cmp.{int_cmp_total}
 use Rattle.std.proofs.lemmas.Map.Lookups.{exact_signed}
 use Rattle.std.proofs.lemmas.List.{map_more}
-use Rattle.tt_value.specs.ColumnBody.{index_in}
-use Rattle.tt_value.proofs.Distinct.{Ascends, has, distinct_ascends}
-use Rattle.tt_value.proofs.Indexes.{found_index, not_missing, member_of_distinct}
+use Rattle.tt_value.specs.columns.Body.{index_in}
+use Rattle.tt_value.proofs.columns.Distinct.{Ascends, has, distinct_ascends}
+use Rattle.tt_value.proofs.columns.Indexes.{found_index, not_missing, member_of_distinct}
 use Rattle.tt_intcol.proofs.bodies.indexes.Goals as goal
 
 pub unreachable-requires : goal.unreachable-requires

@@ -1,6 +1,6 @@
 use Rattle.std.proofs.Common.{◌≡◌, map, take}
 use Rattle.std.specs.Ordering.{int_cmp}
-use Rattle.tt_value.specs.ColumnBody.{index_in}
+use Rattle.tt_value.specs.columns.Body.{index_in}
 use Rattle.tt_intcol.proofs.bodies.indexes.Given as goal
 
 abbrev pub invariant-loop-value : goal.invariant-loop-value

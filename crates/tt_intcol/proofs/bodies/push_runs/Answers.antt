@@ -3,8 +3,8 @@ use Rattle.std.specs.Int.{w64}
 use Rattle.std.specs.Int.RustNames.{FitsSigned}
 use Rattle.std.proofs.lemmas.Int.{to_z-of_z}
 use Rattle.std.specs.Ordering.{int_cmp}
-use Rattle.tt_value.specs.ColumnBody.{run_bytes, word}
-use Rattle.tt_value.proofs.Indexes.{pushed_more}
+use Rattle.tt_value.specs.columns.Body.{run_bytes, word}
+use Rattle.tt_value.proofs.columns.Indexes.{pushed_more}
 use Rattle.tt_intcol.specs.IntBody.{value_bytes}
 use Rattle.tt_intcol.proofs.bodies.push_runs.Goals as goal
 

@@ -1,7 +1,7 @@
 use Rattle.std.proofs.Common.{◌≡◌, ◌++◌, take}
 use Rattle.std.specs.List.{flat_map}
 use Rattle.std.specs.Ordering.{int_cmp}
-use Rattle.tt_value.specs.ColumnBody.{run_bytes}
+use Rattle.tt_value.specs.columns.Body.{run_bytes}
 use Rattle.tt_intcol.specs.IntBody.{value_bytes}
 use Rattle.tt_intcol.proofs.bodies.push_runs.Given as goal
 

@@ -2,7 +2,7 @@ use Rattle.std.proofs.Common.{pos, get_or, rules}
 use Rattle.std.specs.Int.{w64}
 use Rattle.std.specs.Int.RustNames.{FitsSigned}
 use Rattle.std.proofs.lemmas.Int.{to_z-of_z}
-use Rattle.tt_value.proofs.Indexes.{pushed_more}
+use Rattle.tt_value.proofs.columns.Indexes.{pushed_more}
 use Rattle.tt_intcol.specs.IntBody.{value_bytes}
 use Rattle.tt_intcol.proofs.bodies.push_values.Goals as goal
 

@@ -1,6 +1,6 @@
 use Rattle.std.proofs.Common.{length, ap, arith}
 use Rattle.std.specs.Ordering.{int_cmp}
-use Rattle.tt_value.proofs.RunLaws.{runs_le}
+use Rattle.tt_value.proofs.columns.Runs.{runs_le}
 use Rattle.tt_intcol.proofs.bodies.run_body.Goals as goal
 
 pub overflow_cast-len : goal.overflow_cast-len

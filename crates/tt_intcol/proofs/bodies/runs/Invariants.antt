@@ -1,6 +1,6 @@
 use Rattle.std.proofs.Common.{◌≡◌, ◌++◌, ◌+◌, ◌≤◌, drop}
 use Rattle.std.specs.Ordering.{int_cmp}
-use Rattle.tt_value.specs.ColumnBody.{runs_after, runs_of}
+use Rattle.tt_value.specs.columns.Body.{runs_after, runs_of}
 use Rattle.tt_intcol.proofs.bodies.runs.Given as goal
 
 abbrev pub invariant-loop-next : goal.invariant-loop-next

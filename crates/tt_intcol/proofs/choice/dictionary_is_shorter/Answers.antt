@@ -3,9 +3,9 @@ use Rattle.std.specs.Ordering.{int_cmp}
 use Rattle.std.proofs.lemmas.Bool.{le-ltb}
 use Rattle.std.proofs.lemmas.Cmp.{int_cmp_total}
 use Rattle.std.proofs.lemmas.Map.Lookups.{exact_signed}
-use Rattle.tt_value.specs.ColumnBody.{distinct}
-use Rattle.tt_value.proofs.Counting.{dictionary_grows}
-use Rattle.tt_value.proofs.Indexes.{distinct_le}
+use Rattle.tt_value.specs.columns.Body.{distinct}
+use Rattle.tt_value.proofs.columns.Counting.{dictionary_grows}
+use Rattle.tt_value.proofs.columns.Indexes.{distinct_le}
 use Rattle.tt_intcol.specs.declared.encoding.Encoding.TheVariants.{Dictionary}
 use Rattle.tt_intcol.specs.IntBody.{body, value_size}
 use Rattle.tt_intcol.proofs.Lengths.{length-dictionary}

@@ -3,7 +3,7 @@ use Rattle.std.specs.List.Sorted.{IsPermutation}
 use Rattle.std.proofs.lemmas.Cmp.{int_cmp_total}
 use Rattle.std.proofs.lemmas.Map.Lookups.{exact_signed}
 use Rattle.std.proofs.lemmas.List.Filters.{dedup_is}
-use Rattle.tt_value.proofs.Distinct.{distinct_from_sorted}
+use Rattle.tt_value.proofs.columns.Distinct.{distinct_from_sorted}
 use Rattle.tt_intcol.proofs.choice.distinct_values.Goals as goal
 
 pub returns : goal.returns

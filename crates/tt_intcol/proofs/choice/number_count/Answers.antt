@@ -6,8 +6,8 @@ use Rattle.std.proofs.lemmas.Cmp.{int_cmp_total}
 use Rattle.std.proofs.lemmas.Int.{to_z-of_z}
 use Rattle.std.proofs.lemmas.List.{length-set}
 use Rattle.std.proofs.lemmas.Map.Lookups.{exact_signed}
-use Rattle.tt_value.specs.ColumnBody.{distinct}
-use Rattle.tt_value.proofs.Counting.{AreCounted, none_counted, counted_more, counted_in_front, counted_le}
+use Rattle.tt_value.specs.columns.Body.{distinct}
+use Rattle.tt_value.proofs.columns.Counting.{AreCounted, none_counted, counted_more, counted_in_front, counted_le}
 use Rattle.tt_intcol.specs.IntNumber.{number_in}
 use Rattle.tt_intcol.proofs.choice.number_count.Goals as goal
 

@@ -2,7 +2,7 @@ use Rattle.std.proofs.Common.{◌≡◌, ◌≤◌, length, take}
 use Rattle.std.specs.Ordering.{int_cmp}
 use Rattle.std.proofs.lemmas.Cmp.{int_cmp_total}
 use Rattle.std.proofs.lemmas.Map.Lookups.{exact_signed}
-use Rattle.tt_value.proofs.Counting.{AreCounted}
+use Rattle.tt_value.proofs.columns.Counting.{AreCounted}
 use Rattle.tt_intcol.specs.IntNumber.{number_in}
 use Rattle.tt_intcol.proofs.choice.number_count.Given as goal
 

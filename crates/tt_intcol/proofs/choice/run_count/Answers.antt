@@ -3,7 +3,7 @@ use Rattle.std.specs.Int.{w64}
 use Rattle.std.specs.Int.RustNames.{FitsSigned}
 use Rattle.std.specs.Ordering.{int_cmp}
 use Rattle.std.proofs.lemmas.Int.{to_z-of_z}
-use Rattle.tt_value.proofs.RunLaws.{count_start}
+use Rattle.tt_value.proofs.columns.Runs.{count_start}
 use Rattle.tt_intcol.proofs.choice.run_count.Goals as goal
 
 pub loop-next-init : goal.loop-next-init

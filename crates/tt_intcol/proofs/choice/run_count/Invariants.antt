@@ -1,7 +1,7 @@
 use Rattle.std.proofs.Common.{◌≡◌, ◌+◌, ◌≤◌, drop, length}
 use Rattle.std.specs.Ordering.{int_cmp}
-use Rattle.tt_value.specs.ColumnBody.{runs_of}
-use Rattle.tt_value.proofs.RunLaws.{breaks}
+use Rattle.tt_value.specs.columns.Body.{runs_of}
+use Rattle.tt_value.proofs.columns.Runs.{breaks}
 use Rattle.tt_intcol.proofs.choice.run_count.Given as goal
 
 abbrev pub invariant-loop-next : goal.invariant-loop-next

@@ -3,7 +3,7 @@ use Rattle.std.specs.Prelude.{◌==◌}
 use Rattle.std.specs.List.{list_any, list_all}
 use Rattle.std.specs.Int.{w64}
 use Rattle.std.proofs.lemmas.Int.{to_z-of_z}
-use Rattle.tt_value.specs.Packing.{width_of}
+use Rattle.tt_value.specs.columns.Packing.{width_of}
 use Rattle.tt_intcol.specs.IntBody.{greatest_of}
 use Rattle.tt_intcol.specs.IntReading.{is_frame, is_within}
 use Rattle.tt_intcol.proofs.frame.frame_values.Goals as goal

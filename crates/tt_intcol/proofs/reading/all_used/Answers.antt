@@ -2,7 +2,7 @@ use Rattle.std.proofs.Common.{◌∙◌, ap}
 use Rattle.std.specs.Prelude.{◌==◌}
 use Rattle.std.specs.List.{list_all, list_any}
 use Rattle.std.proofs.lemmas.List.{take_all}
-use Rattle.tt_value.proofs.Lookups.{used_each}
+use Rattle.tt_value.proofs.columns.Lookups.{used_each}
 use Rattle.tt_intcol.proofs.reading.all_used.Goals as goal
 
 pub returns : goal.returns

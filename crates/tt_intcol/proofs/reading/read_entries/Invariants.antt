@@ -1,7 +1,7 @@
 use Rattle.std.proofs.Common.{◌≡◌, ◌-◌, None}
 use Rattle.std.specs.Ordering.{int_cmp}
-use Rattle.tt_value.specs.ColumnReading.{entries_at}
-use Rattle.tt_value.proofs.ReadingLoops.{with_front}
+use Rattle.tt_value.specs.columns.Reading.{entries_at}
+use Rattle.tt_value.proofs.columns.Loops.{with_front}
 use Rattle.tt_intcol.specs.IntReading.{value_at}
 use Rattle.tt_intcol.proofs.reading.read_entries.Given as goal
 

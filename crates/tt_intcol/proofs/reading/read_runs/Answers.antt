@@ -4,7 +4,7 @@ use Rattle.std.specs.Int.{w64}
 use Rattle.std.specs.Int.RustNames.{FitsSigned}
 use Rattle.std.proofs.lemmas.Int.{to_z-of_z}
 use Rattle.std.specs.Ordering.{int_cmp}
-use Rattle.tt_value.proofs.ReadingLoops.{runs_more, runs_fault, runs_done}
+use Rattle.tt_value.proofs.columns.Loops.{runs_more, runs_fault, runs_done}
 use Rattle.tt_intcol.specs.IntReading.{value_at}
 use Rattle.tt_intcol.proofs.Faults.{passes_on}
 use Rattle.tt_intcol.proofs.reading.read_runs.Goals as goal

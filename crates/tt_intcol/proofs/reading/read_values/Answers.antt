@@ -4,7 +4,7 @@ use Rattle.std.specs.Int.{w64}
 use Rattle.std.specs.Int.RustNames.{FitsSigned}
 use Rattle.std.proofs.lemmas.Int.{to_z-of_z}
 use Rattle.std.specs.Ordering.{int_cmp}
-use Rattle.tt_value.proofs.ReadingLoops.{values_more, values_fault, values_done}
+use Rattle.tt_value.proofs.columns.Loops.{values_more, values_fault, values_done}
 use Rattle.tt_intcol.specs.IntReading.{value_at}
 use Rattle.tt_intcol.proofs.Faults.{passes_on}
 use Rattle.tt_intcol.proofs.reading.read_values.Goals as goal

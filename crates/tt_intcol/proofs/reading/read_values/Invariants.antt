@@ -1,7 +1,7 @@
 use Rattle.std.proofs.Common.{◌≡◌, ◌-◌}
 use Rattle.std.specs.Ordering.{int_cmp}
-use Rattle.tt_value.specs.ColumnReading.{values_at}
-use Rattle.tt_value.proofs.ReadingLoops.{with_front}
+use Rattle.tt_value.specs.columns.Reading.{values_at}
+use Rattle.tt_value.proofs.columns.Loops.{with_front}
 use Rattle.tt_intcol.specs.IntReading.{value_at}
 use Rattle.tt_intcol.proofs.reading.read_values.Given as goal
 

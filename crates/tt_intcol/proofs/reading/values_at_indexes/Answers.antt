@@ -3,7 +3,7 @@ use Rattle.std.specs.Int.{w64}
 use Rattle.std.specs.Int.RustNames.{FitsSigned}
 use Rattle.std.proofs.lemmas.Int.{to_z-of_z}
 use Rattle.std.proofs.Common.{rules}
-use Rattle.tt_value.proofs.Lookups.{look_more, look_none}
+use Rattle.tt_value.proofs.columns.Lookups.{look_more, look_none}
 use Rattle.tt_intcol.proofs.reading.values_at_indexes.Goals as goal
 
 pub returns-in-None : goal.returns-in-None

@@ -1,6 +1,6 @@
 use Rattle.std.proofs.Common.{◌≡◌, ◌++◌, drop}
 use Rattle.std.specs.Option.{option_map}
-use Rattle.tt_value.specs.ColumnReading.{values_of}
+use Rattle.tt_value.specs.columns.Reading.{values_of}
 use Rattle.tt_intcol.proofs.reading.values_at_indexes.Given as goal
 
 abbrev pub invariant-loop-index : goal.invariant-loop-index

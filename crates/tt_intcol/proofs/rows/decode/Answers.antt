@@ -1,7 +1,7 @@
 use Rattle.std.proofs.Common.{◌≡◌, ◌∙◌, ap, sym, Ok, length, arith}
 use Rattle.std.specs.Prelude.{IfOk}
 use Rattle.std.specs.List.{AllByRecursion}
-use Rattle.tt_value.specs.ColumnBody.{present}
+use Rattle.tt_value.specs.columns.Body.{present}
 use Rattle.tt_intcol.specs.IntBody.{IsValue, column_of}
 use Rattle.tt_intcol.specs.IntReading.{rows_of}
 use Rattle.tt_intcol.proofs.RowsAgain.{rows_again}

@@ -1,5 +1,5 @@
 use Rattle.std.proofs.Common.{◌≡◌, ◌++◌, drop}
-use Rattle.tt_value.specs.ColumnReading.{spread}
+use Rattle.tt_value.specs.columns.Reading.{spread}
 use Rattle.tt_intcol.proofs.rows.spread.Given as goal
 
 abbrev pub invariant-loop-flag : goal.invariant-loop-flag

@@ -1,5 +1,5 @@
 use Rattle.std.proofs.Common.{◌∙◌}
-use Rattle.tt_value.proofs.Indexes.{flags_fit}
+use Rattle.tt_value.proofs.columns.Indexes.{flags_fit}
 use Rattle.tt_intcol.proofs.writing.bitmap.Goals as goal
 
 pub pack-requires-clause-fit : goal.pack-requires-clause-fit

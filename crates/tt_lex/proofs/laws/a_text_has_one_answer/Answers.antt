@@ -1,4 +1,4 @@
-use Rattle.tt_lex.specs.WholeLaws.{answer}
+use Rattle.tt_lex.specs.answer.WholeTexts.{answer}
 use Rattle.tt_lex.proofs.OneWay.{same_tokens, same_fault, not_both}
 use Rattle.tt_lex.proofs.laws.a_text_has_one_answer.Goals as goal
 

@@ -1,5 +1,5 @@
 use Rattle.tt_lex.proofs.Characters.{HasTokens-between}
-use Rattle.tt_lex.specs.ReadingLaws.{HasTokens-in_order, HasTokens-spelled}
+use Rattle.tt_lex.proofs.Places.{HasTokens-in_order, HasTokens-spelled}
 use Rattle.tt_lex.proofs.laws.tokens_stand_in_their_text.Goals as goal
 
 pub returns-clause-order : goal.returns-clause-order

@@ -4,7 +4,8 @@ use Rattle.std.proofs.lemmas.Bool.{eqb-true}
 use Rattle.std.proofs.lemmas.Result.{err_from_is_err_and}
 use Rattle.tt_lex.proofs.Characters.{HasTokens-between}
 use Rattle.tt_lex.proofs.OneWay.{same_tokens, same_fault, not_both}
-use Rattle.tt_lex.specs.ReadingLaws.{one_more, at_end, at_fault, HasTokens-in_order}
+use Rattle.tt_lex.specs.answer.Pieces.{one_more, at_end, at_fault}
+use Rattle.tt_lex.proofs.Places.{HasTokens-in_order}
 use Rattle.tt_lex.proofs.Function.{tokens_law, fault_law}
 use Rattle.tt_lex.proofs.lexer.tokens.Goals as goal
 use Rattle.tt_lex.proofs.lexer.tokens.Goals.{in-Some+in_ok-push, in_default}

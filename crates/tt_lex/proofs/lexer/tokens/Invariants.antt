@@ -1,5 +1,5 @@
 use Rattle.std.proofs.Common.{length}
-use Rattle.tt_lex.specs.ReadingLaws.{HasRead}
+use Rattle.tt_lex.specs.answer.Pieces.{HasRead}
 use Rattle.tt_lex.proofs.lexer.tokens.Given as goal
 
 abbrev pub invariant-loop-rest : goal.invariant-loop-rest

@@ -1,5 +1,5 @@
 use Rattle.std.proofs.Common.{◌≡◌, ◌+◌, ◌-◌, get_or, ap, ◌∙◌, arith}
-use Rattle.tt_lex.specs.FrontLaws.{closed_at}
+use Rattle.tt_lex.proofs.QuotedTexts.{closed_at}
 use Rattle.tt_lex.proofs.scan.body_length.Goals as goal
 
 pub returns-then-rest-i-eq47-clause-found : goal.returns-then-rest-i-eq47-clause-found

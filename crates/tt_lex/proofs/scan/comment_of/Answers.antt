@@ -1,4 +1,4 @@
-use Rattle.tt_lex.specs.FrontLaws.{takes_block}
+use Rattle.tt_lex.specs.answer.Fronts.{takes_block}
 use Rattle.tt_lex.proofs.scan.comment_of.Goals as goal
 
 pub returns-in-Some-clause-piece : goal.returns-in-Some-clause-piece

@@ -2,7 +2,7 @@ use Rattle.std.proofs.Common.{length, sym, ap, ◌∙◌, arith}
 use Rattle.std.specs.Char.{is_ascii_digit}
 use Rattle.std.proofs.lemmas.List.Sums.{prefix_len-le-length}
 use Rattle.tt_lex.specs.Lexis.{is_word_part, is_line_byte}
-use Rattle.tt_lex.specs.FrontLaws.{takes_white, takes_word, takes_number, takes_line}
+use Rattle.tt_lex.specs.answer.Fronts.{takes_white, takes_word, takes_number, takes_line}
 use Rattle.tt_lex.proofs.scan.front_of.Goals as goal
 
 pub returns-then-is_white-clause-piece : goal.returns-then-is_white-clause-piece

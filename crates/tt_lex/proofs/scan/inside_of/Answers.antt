@@ -1,5 +1,5 @@
 use Rattle.std.proofs.Common.{arith}
-use Rattle.tt_lex.specs.FrontLaws.{length-le-doubled, one_byte, two_quotes}
+use Rattle.tt_lex.proofs.QuotedTexts.{length-le-doubled, one_byte, two_quotes}
 use Rattle.tt_lex.proofs.scan.inside_of.Goals as goal
 use Rattle.tt_lex.proofs.scan.inside_of.Goals.{then-rest-written-eq39+else-written-rest+else-rest-written-ne39, else-rest-written-eq39}
 

@@ -2,7 +2,7 @@ use Rattle.std.proofs.Common.{◌<◌, length, get_or, take, subst, inr, arith}
 use Rattle.std.proofs.lemmas.List.{length-take}
 use Rattle.std.proofs.lemmas.List.Sums.{prefix_len-le-length}
 use Rattle.tt_lex.specs.Lexis.{is_text_byte, RefusesInText}
-use Rattle.tt_lex.specs.FrontLaws.{takes_text, refuses}
+use Rattle.tt_lex.specs.answer.Fronts.{takes_text, refuses}
 use Rattle.tt_lex.proofs.scan.quoted_of.Goals as goal
 
 pub returns-then-allowed-text-clause-piece : goal.returns-then-allowed-text-clause-piece

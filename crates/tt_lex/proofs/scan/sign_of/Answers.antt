@@ -1,5 +1,5 @@
 use Rattle.std.proofs.Common.{sym, ◌∙◌}
-use Rattle.tt_lex.specs.FrontLaws.{takes_long, takes_short}
+use Rattle.tt_lex.specs.answer.Fronts.{takes_long, takes_short}
 use Rattle.tt_lex.proofs.scan.sign_of.Goals as goal
 
 pub returns-then-begins_long_sign-clause-piece : goal.returns-then-begins_long_sign-clause-piece

@@ -1,5 +1,5 @@
 use Rattle.std.proofs.Common.{◌≡◌, ◌≤◌, ◌∷◌, ◌∙◌, ℕ, false, List, [], length, All, refl, sym, ap, subst, true≢false}
-use Rattle.tt_value.specs.TextValue.{IsPrintableAscii}
+use Rattle.tt_value.specs.values.Texts.{IsPrintableAscii}
 use Rattle.tt_sql.specs.Grammar.{Said, is_of}
 use Rattle.tt_sql.specs.Parts.{quoted_name}
 use Rattle.tt_sql.specs.TokenKinds.{OTHER_TEXT, is_quoted, upper}

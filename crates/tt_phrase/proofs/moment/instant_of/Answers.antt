@@ -3,7 +3,7 @@ use Rattle.std.specs.Prelude.{is_some}
 use Rattle.std.specs.Int.{w64}
 use Rattle.std.specs.Int.RustNames.{FitsSigned}
 use Rattle.std.proofs.lemmas.Int.{to_z-of_z}
-use Rattle.tt_value.specs.CalendarReading.{timestamp_of}
+use Rattle.tt_value.specs.calendar.Reading.{timestamp_of}
 use Rattle.tt_sql.specs.Grammar.{Meant, is_of}
 use Rattle.tt_sql.specs.TokenKinds.{OTHER_TEXT, is_quoted}
 use Rattle.tt_sql.specs.Parts.{quoted_moment}

@@ -1,7 +1,7 @@
 use Rattle.std.proofs.Common.{◌≡◌, ◌∙◌, Some, List, All, map, length, ap, sym, subst}
 use Rattle.std.proofs.lemmas.Result.{IfOk-weaker}
 use Rattle.tt_value.specs.declared.value.Row.{Row}
-use Rattle.tt_value.specs.RowText.{IsPrintable}
+use Rattle.tt_value.specs.values.RowText.{IsPrintable}
 use Rattle.tt_sql.specs.declared.change.Tuple.{Tuple}
 use Rattle.tt_plain.specs.InsertRows.{added_rows}
 use Rattle.tt_plain.specs.WrongCounts.{width}

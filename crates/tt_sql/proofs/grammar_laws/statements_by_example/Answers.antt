@@ -1,6 +1,6 @@
 -- The machine computes them.
 use Rattle.std.proofs.Common.{refl}
-use Rattle.tt_value.specs.CalendarReading.{day_of, timestamp_of}
+use Rattle.tt_value.specs.calendar.Reading.{day_of, timestamp_of}
 use Rattle.tt_sql.specs.Machine.{run, step, close, close_part, enter}
 use Rattle.tt_sql.specs.Read.{read_other, read_unit}
 use Rattle.tt_sql.specs.TokenKinds.{word_kind, number_kind, text_kind, sign_kind, undoubled}

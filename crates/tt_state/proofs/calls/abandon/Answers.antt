@@ -7,7 +7,7 @@ use Rattle.tt_plain.specs.StepLaws.{entry_at, abandoned}
 use Rattle.tt_state.specs.Book.{Book, MadeEntry}
 use Rattle.tt_state.specs.Tickets.{IsTicketOf, opened_by}
 use Rattle.tt_state.specs.PlainOf.{plain_of}
-use Rattle.tt_state.specs.BookLaws.{has_room, goes_on, made}
+use Rattle.tt_state.proofs.Book.{has_room, goes_on, made}
 use Rattle.tt_state.proofs.Turns.{open_ready}
 use Rattle.tt_state.proofs.calls.abandon.Goals as goal
 

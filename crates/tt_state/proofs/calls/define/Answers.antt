@@ -5,9 +5,9 @@ use Rattle.tt_plain.specs.Store.{next_statement}
 use Rattle.tt_plain.specs.StepLaws.{entry_at}
 use Rattle.tt_state.specs.Book.{Book, MadeEntry}
 use Rattle.tt_state.specs.PlainOf.{plain_of}
-use Rattle.tt_state.specs.OutcomeLaws.{defined_step}
-use Rattle.tt_state.specs.ReadyLaws.{few_tables}
-use Rattle.tt_state.specs.BookLaws.{has_room, goes_on, made}
+use Rattle.tt_state.proofs.Outcomes.{defined_step}
+use Rattle.tt_state.proofs.Ready.{few_tables}
+use Rattle.tt_state.proofs.Book.{has_room, goes_on, made}
 use Rattle.tt_state.proofs.Turns.{next_ready, next_built}
 use Rattle.tt_state.proofs.calls.define.Goals as goal
 

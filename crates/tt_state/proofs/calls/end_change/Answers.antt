@@ -7,7 +7,7 @@ use Rattle.tt_plain.specs.StepLaws.{entry_at}
 use Rattle.tt_state.specs.Book.{Book, MadeEntry}
 use Rattle.tt_state.specs.Tickets.{IsBuiltFor}
 use Rattle.tt_state.specs.PlainOf.{plain_of}
-use Rattle.tt_state.specs.BookLaws.{has_room, goes_on, made}
+use Rattle.tt_state.proofs.Book.{has_room, goes_on, made}
 use Rattle.tt_state.proofs.Commits.{built_ready, target_known, commit_ready, commit_step}
 use Rattle.tt_state.proofs.calls.end_change.Goals as goal
 

@@ -8,8 +8,8 @@ use Rattle.tt_plain.specs.StepLaws.{entry_at}
 use Rattle.tt_state.specs.Book.{Book, MadeEntry}
 use Rattle.tt_state.specs.Tickets.{IsTicketOf, opened_by}
 use Rattle.tt_state.specs.PlainOf.{plain_of}
-use Rattle.tt_state.specs.OutcomeLaws.{query_step}
-use Rattle.tt_state.specs.BookLaws.{has_room, goes_on, made}
+use Rattle.tt_state.proofs.Outcomes.{query_step}
+use Rattle.tt_state.proofs.Book.{has_room, goes_on, made}
 use Rattle.tt_state.proofs.Turns.{open_ready}
 use Rattle.tt_state.proofs.calls.end_read.Goals as goal
 

@@ -8,7 +8,7 @@ use Rattle.tt_plain.specs.Store.{next_statement}
 use Rattle.tt_plain.specs.StepLaws.{entry_at, start_refused}
 use Rattle.tt_state.specs.Book.{Book, MadeEntry}
 use Rattle.tt_state.specs.PlainOf.{plain_of}
-use Rattle.tt_state.specs.BookLaws.{has_room, goes_on, made}
+use Rattle.tt_state.proofs.Book.{has_room, goes_on, made}
 use Rattle.tt_state.proofs.Turns.{next_ready}
 use Rattle.tt_state.proofs.calls.refuse_text.Goals as goal
 

@@ -7,8 +7,8 @@ use Rattle.tt_state.specs.Book.{Book, MadeEntry}
 use Rattle.tt_state.specs.Outcomes.{reply_to_start}
 use Rattle.tt_state.specs.Tickets.{GivesTicket}
 use Rattle.tt_state.specs.PlainOf.{plain_of}
-use Rattle.tt_state.specs.OutcomeLaws.{started_step}
-use Rattle.tt_state.specs.BookLaws.{has_room, goes_on, made}
+use Rattle.tt_state.proofs.Outcomes.{started_step}
+use Rattle.tt_state.proofs.Book.{has_room, goes_on, made}
 use Rattle.tt_state.proofs.Turns.{next_ready, next_built, ticket_given}
 use Rattle.tt_state.proofs.calls.start_statement.Goals as goal
 

@@ -1,6 +1,6 @@
 use Rattle.std.proofs.Common.{List, All, subst, sym}
-use Rattle.tt_value.specs.BagLaws.{All-bag_of, All-bag_plus}
-use Rattle.tt_value.specs.RowText.{IsPrintable}
+use Rattle.tt_value.proofs.values.Bags.{All-bag_of, All-bag_plus}
+use Rattle.tt_value.specs.values.RowText.{IsPrintable}
 use Rattle.tt_value.specs.declared.value.Row.{Row}
 use Rattle.tt_state.proofs.changes.next_version.Goals as goal
 

@@ -1,6 +1,6 @@
 use Rattle.std.proofs.Common.{◌≡◌, ◌∙◌, ℤ, false, [], ◌∷◌, refl, ap}
 use Rattle.tt_sql.specs.Grammar.{is_of, Meant, Said, Way}
-use Rattle.tt_value.specs.Calendar.{day_text}
+use Rattle.tt_value.specs.calendar.Calendar.{day_text}
 use Rattle.tt_sql.specs.TokenKinds.{OTHER_TEXT, is_quoted}
 use Rattle.tt_sql.specs.Written.{literal}
 use Rattle.tt_terminal.specs.Reading.{IsQuoted, Fails, first_kind, first_place}

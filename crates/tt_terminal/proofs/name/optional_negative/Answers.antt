@@ -6,7 +6,7 @@ use Rattle.std.specs.Char.{is_ascii_digit}
 use Rattle.tt_lex.specs.Lexis.{text_of}
 use Rattle.tt_sql.specs.Grammar.{is_of}
 use Rattle.tt_sql.specs.TokenKinds.{SHORT_NUMBER, is_negative}
-use Rattle.tt_value.specs.CalendarReading.{digits_value as number_of}
+use Rattle.tt_value.specs.calendar.Reading.{digits_value as number_of}
 use Rattle.tt_terminal.specs.KindNumbers.{kind_number}
 use Rattle.tt_terminal.specs.Reading.{IsOf}
 use Rattle.tt_terminal.proofs.Steps.{first_is_of}

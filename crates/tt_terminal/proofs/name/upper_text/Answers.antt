@@ -1,5 +1,5 @@
 use Rattle.std.proofs.Common.{rules, ◌≡◌, All, subst, sym}
-use Rattle.tt_value.specs.TextValue.{IsPrintableAscii}
+use Rattle.tt_value.specs.values.Texts.{IsPrintableAscii}
 use Rattle.tt_sql.specs.TokenKinds.{upper}
 use Rattle.tt_terminal.proofs.name.upper_text.Goals as goal
 

@@ -1,7 +1,7 @@
 use Rattle.std.proofs.Common.{◌≡◌, ◌+◌, ◌^◌, true, min, take}
 use Rattle.std.specs.List.{list_all}
 use Rattle.std.specs.Char.{is_ascii_digit}
-use Rattle.tt_value.specs.CalendarReading.{digits_value as number_of}
+use Rattle.tt_value.specs.calendar.Reading.{digits_value as number_of}
 use Rattle.tt_terminal.proofs.name.value_of.Given as goal
 
 abbrev pub invariant-loop-digit : goal.invariant-loop-digit

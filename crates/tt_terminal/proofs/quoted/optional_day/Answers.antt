@@ -1,7 +1,7 @@
 use Rattle.std.proofs.Common.{◌≡◌, ◌≤◌, ◌∙◌, ℕ, true, List, length, subst, sym, ap, refl, arith, FitsSigned, w32}
 use Rattle.std.specs.Str.{IsUtf8}
 use Rattle.std.proofs.lemmas.Int.{to_z-of_z, ints}
-use Rattle.tt_value.specs.Calendar.{IsDay}
+use Rattle.tt_value.specs.calendar.Calendar.{IsDay}
 use Rattle.tt_sql.specs.Grammar.{is_of}
 use Rattle.tt_sql.specs.TokenKinds.{OTHER_TEXT, DATE_TEXT, is_quoted, unquoted, text_kind}
 use Rattle.tt_terminal.specs.KindNumbers.{kind_number}

@@ -1,5 +1,5 @@
 use Rattle.std.proofs.Common.{◌≡◌, map, take}
-use Rattle.tt_value.specs.ColumnBody.{index_in}
+use Rattle.tt_value.specs.columns.Body.{index_in}
 use Rattle.tt_textcol.specs.TextBody.{text_cmp}
 use Rattle.tt_textcol.proofs.bodies.indexes.Given as goal
 

@@ -1,6 +1,6 @@
 use Rattle.std.proofs.Common.{ℕ, List, ◌++◌, ap, ◌∙◌, append_assoc}
-use Rattle.tt_value.specs.ColumnBody.{run_bytes, word}
-use Rattle.tt_value.proofs.Indexes.{pushed_more}
+use Rattle.tt_value.specs.columns.Body.{run_bytes, word}
+use Rattle.tt_value.proofs.columns.Indexes.{pushed_more}
 use Rattle.tt_textcol.specs.TextBody.{text_bytes, text_cmp}
 use Rattle.tt_textcol.proofs.bodies.push_runs.Goals as goal
 

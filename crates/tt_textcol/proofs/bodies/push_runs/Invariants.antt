@@ -1,6 +1,6 @@
 use Rattle.std.proofs.Common.{◌≡◌, ◌++◌, take}
 use Rattle.std.specs.List.{flat_map}
-use Rattle.tt_value.specs.ColumnBody.{run_bytes}
+use Rattle.tt_value.specs.columns.Body.{run_bytes}
 use Rattle.tt_textcol.specs.TextBody.{text_bytes, text_cmp}
 use Rattle.tt_textcol.proofs.bodies.push_runs.Given as goal
 

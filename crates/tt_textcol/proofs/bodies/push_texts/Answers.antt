@@ -1,5 +1,5 @@
 use Rattle.std.proofs.Common.{ℕ, List, ◌++◌, ap, ◌∙◌}
-use Rattle.tt_value.proofs.Indexes.{pushed_more}
+use Rattle.tt_value.proofs.columns.Indexes.{pushed_more}
 use Rattle.tt_textcol.specs.TextBody.{text_bytes}
 use Rattle.tt_textcol.proofs.bodies.push_texts.Goals as goal
 

@@ -1,5 +1,5 @@
 use Rattle.std.proofs.Common.{length, ap, arith}
-use Rattle.tt_value.proofs.RunLaws.{runs_le}
+use Rattle.tt_value.proofs.columns.Runs.{runs_le}
 use Rattle.tt_textcol.specs.TextBody.{text_cmp}
 use Rattle.tt_textcol.proofs.bodies.run_body.Goals as goal
 

@@ -1,5 +1,5 @@
 use Rattle.std.proofs.Common.{◌≡◌, ◌++◌, ◌+◌, ◌≤◌, drop}
-use Rattle.tt_value.specs.ColumnBody.{runs_after, runs_of}
+use Rattle.tt_value.specs.columns.Body.{runs_after, runs_of}
 use Rattle.tt_textcol.specs.TextBody.{text_cmp}
 use Rattle.tt_textcol.proofs.bodies.runs.Given as goal
 

@@ -1,10 +1,10 @@
 use Rattle.std.proofs.Common.{◌≡◌, ℕ, List, length, ap, ◌+◌, ◌-◌, ◌*◌, ◌∙◌, arith}
 use Rattle.std.specs.List.{flat_map}
 use Rattle.std.proofs.lemmas.Bool.{le-ltb, lt-ltb}
-use Rattle.tt_value.specs.Packing.{bytes_for, width_of}
-use Rattle.tt_value.specs.ColumnBody.{distinct}
-use Rattle.tt_value.proofs.Counting.{dictionary_grows}
-use Rattle.tt_value.proofs.Indexes.{distinct_le}
+use Rattle.tt_value.specs.columns.Packing.{bytes_for, width_of}
+use Rattle.tt_value.specs.columns.Body.{distinct}
+use Rattle.tt_value.proofs.columns.Counting.{dictionary_grows}
+use Rattle.tt_value.proofs.columns.Indexes.{distinct_le}
 use Rattle.tt_textcol.specs.declared.encoding.Encoding.TheVariants.{Dictionary}
 use Rattle.tt_textcol.specs.TextBody.{text_bytes, text_cmp, body}
 use Rattle.tt_textcol.specs.TextLaws.{text_total, text_ties}

@@ -1,7 +1,7 @@
 use Rattle.std.specs.Ordering.{eq_by_cmp}
 use Rattle.std.specs.List.Sorted.{IsPermutation}
 use Rattle.std.proofs.lemmas.List.Filters.{dedup_is}
-use Rattle.tt_value.proofs.Distinct.{distinct_from_sorted}
+use Rattle.tt_value.proofs.columns.Distinct.{distinct_from_sorted}
 use Rattle.tt_textcol.specs.TextBody.{text_cmp}
 use Rattle.tt_textcol.specs.TextLaws.{text_total, text_ties}
 use Rattle.tt_textcol.proofs.choice.distinct_values.Goals as goal

@@ -1,5 +1,5 @@
 use Rattle.std.proofs.Common.{◌≡◌, ◌*◌, ◌+◌, ◌≤◌, length, drop}
-use Rattle.tt_value.specs.ColumnBody.{run_body}
+use Rattle.tt_value.specs.columns.Body.{run_body}
 use Rattle.tt_textcol.specs.TextBody.{text_bytes, text_cmp}
 use Rattle.tt_textcol.proofs.Lengths.{behind}
 use Rattle.tt_textcol.proofs.choice.run_length.Given as goal

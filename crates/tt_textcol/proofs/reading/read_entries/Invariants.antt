@@ -1,6 +1,6 @@
 use Rattle.std.proofs.Common.{◌≡◌, ◌-◌, None}
-use Rattle.tt_value.specs.ColumnReading.{entries_at}
-use Rattle.tt_value.proofs.ReadingLoops.{with_front}
+use Rattle.tt_value.specs.columns.Reading.{entries_at}
+use Rattle.tt_value.proofs.columns.Loops.{with_front}
 use Rattle.tt_textcol.specs.TextBody.{text_cmp}
 use Rattle.tt_textcol.specs.TextReading.{text_at}
 use Rattle.tt_textcol.proofs.reading.read_entries.Given as goal

@@ -1,5 +1,5 @@
 use Rattle.std.proofs.lemmas.Result.{err_from_is_err_and}
-use Rattle.tt_value.proofs.ReadingLoops.{values_more, values_fault, values_done}
+use Rattle.tt_value.proofs.columns.Loops.{values_more, values_fault, values_done}
 use Rattle.tt_textcol.specs.TextBody.{text_cmp}
 use Rattle.tt_textcol.specs.TextReading.{text_at}
 use Rattle.tt_textcol.proofs.Faults.{passes_on}

@@ -1,6 +1,6 @@
 use Rattle.std.proofs.Common.{◌≡◌, ◌-◌}
-use Rattle.tt_value.specs.ColumnReading.{values_at}
-use Rattle.tt_value.proofs.ReadingLoops.{with_front}
+use Rattle.tt_value.specs.columns.Reading.{values_at}
+use Rattle.tt_value.proofs.columns.Loops.{with_front}
 use Rattle.tt_textcol.specs.TextBody.{text_cmp}
 use Rattle.tt_textcol.specs.TextReading.{text_at}
 use Rattle.tt_textcol.proofs.reading.read_values.Given as goal

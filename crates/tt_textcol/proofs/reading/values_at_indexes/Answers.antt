@@ -1,5 +1,5 @@
 use Rattle.std.proofs.Common.{refl}
-use Rattle.tt_value.proofs.Lookups.{look_more, look_none}
+use Rattle.tt_value.proofs.columns.Lookups.{look_more, look_none}
 use Rattle.tt_textcol.proofs.reading.values_at_indexes.Goals as goal
 
 pub returns-in-None : goal.returns-in-None

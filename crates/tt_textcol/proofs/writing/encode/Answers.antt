@@ -1,5 +1,5 @@
 use Rattle.std.proofs.Common.{ap, length, arith}
-use Rattle.tt_value.proofs.Indexes.{present_le}
+use Rattle.tt_value.proofs.columns.Indexes.{present_le}
 use Rattle.tt_textcol.proofs.writing.encode.Goals as goal
 
 pub body_of-requires-clause-few : goal.body_of-requires-clause-few

@@ -1,5 +1,5 @@
 use Rattle.std.proofs.Common.{◌≡◌, ◌++◌, drop}
-use Rattle.tt_value.specs.ColumnBody.{present}
+use Rattle.tt_value.specs.columns.Body.{present}
 use Rattle.tt_textcol.proofs.writing.present.Given as goal
 
 abbrev pub invariant-loop-row : goal.invariant-loop-row

@@ -1,5 +1,5 @@
 use Rattle.std.proofs.Common.{◌∷◌, ◌++◌, sym, ◌∙◌}
-use Rattle.tt_value.specs.Calendar.{date_of, two_digits}
+use Rattle.tt_value.specs.calendar.Calendar.{date_of, two_digits}
 use Rattle.tt_time.proofs.Spelling.{four_one, two_one, cons_tail, day_writable, after_year}
 use Rattle.tt_time.proofs.dates.date_at.Goals as goal
 

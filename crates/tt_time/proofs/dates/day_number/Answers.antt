@@ -3,8 +3,8 @@ use Rattle.std.proofs.lemmas.Bool.{false≢true}
 use Rattle.std.proofs.lemmas.Int.{to_z-of_z}
 use Rattle.jiff_core.specs.Date.{epoch_day}
 use Rattle.jiff_core.proofs.SignedLemmas.{signed_arith}
-use Rattle.tt_value.specs.Calendar.{CivilDate}
-use Rattle.tt_value.specs.CalendarLaws.{numbered}
+use Rattle.tt_value.specs.calendar.Calendar.{CivilDate}
+use Rattle.tt_value.proofs.calendar.DayNumbers.{numbered}
 use Rattle.tt_time.proofs.Days.{refused, accepted}
 use Rattle.tt_time.proofs.dates.day_number.Goals as goal
 

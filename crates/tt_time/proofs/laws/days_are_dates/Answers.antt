@@ -1,5 +1,5 @@
 use Rattle.std.proofs.Common.{[], refl}
-use Rattle.tt_value.specs.CalendarLaws.{number, day_is, day_zero, numbered, one_day}
+use Rattle.tt_value.proofs.calendar.DayNumbers.{number, day_is, day_zero, numbered, one_day}
 use Rattle.tt_time.proofs.Spelling.{day_one}
 use Rattle.tt_time.proofs.laws.days_are_dates.Goals as goal
 

@@ -1,5 +1,5 @@
 use Rattle.std.proofs.Common.{ℕ, List, ◌∷◌, ◌++◌, sym, ◌∙◌, arith, refl}
-use Rattle.tt_value.specs.Calendar.{two_digits}
+use Rattle.tt_value.specs.calendar.Calendar.{two_digits}
 use Rattle.tt_time.proofs.Spelling.{two_one, cons_tail, clock_parts, made_clock}
 use Rattle.tt_time.proofs.timestamps.clock_at.Goals as goal
 

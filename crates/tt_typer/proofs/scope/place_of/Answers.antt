@@ -1,5 +1,5 @@
 use Rattle.std.proofs.Common.{◌∙◌, sym, ap, if◌then◌else◌, None}
-use Rattle.tt_value.specs.Scope.{column_place}
+use Rattle.tt_value.specs.trees.Scope.{column_place}
 use Rattle.tt_typer.specs.TableScopes.{scope_in}
 use Rattle.tt_typer.proofs.OneTable.{place_in_one}
 use Rattle.tt_typer.proofs.scope.place_of.Goals as goal

@@ -1,4 +1,4 @@
-use Rattle.tt_value.specs.BagLaws.{bags_same}
+use Rattle.tt_value.proofs.values.Bags.{bags_same}
 use Rattle.tt_value.proofs.bag.bags_are_their_copies.Goals as goal
 
 pub returns : goal.returns

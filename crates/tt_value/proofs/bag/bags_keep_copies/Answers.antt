@@ -1,4 +1,4 @@
-use Rattle.tt_value.specs.BagLaws.{copies_of-bag_of, copies_of-bag_plus, copies_of-bag_minus, IsBag-bag_of, IsBag-bag_minus}
+use Rattle.tt_value.proofs.values.Bags.{copies_of-bag_of, copies_of-bag_plus, copies_of-bag_minus, IsBag-bag_of, IsBag-bag_minus}
 use Rattle.tt_value.proofs.bag.bags_keep_copies.Goals as goal
 
 pub returns-clause-of : goal.returns-clause-of

@@ -1,7 +1,7 @@
 use Rattle.std.proofs.Common.{◌≡◌, ◌⊎◌, ◌∙◌, length, true, false, inl, inr, sym, ap}
 use Rattle.std.specs.Ordering.{is_gt}
-use Rattle.tt_value.specs.Order.{is_above}
-use Rattle.tt_value.specs.BagLaws.{merge_left_step, merge_right_step, merge_end, IsBag-tail}
+use Rattle.tt_value.specs.values.Order.{is_above}
+use Rattle.tt_value.proofs.values.Bags.{merge_left_step, merge_right_step, merge_end, IsBag-tail}
 use Rattle.tt_value.proofs.bag.merged.Goals as goal
 use Rattle.tt_value.proofs.bag.merged.Goals.{in_default, in_default-2}
 

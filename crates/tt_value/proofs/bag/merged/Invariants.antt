@@ -1,5 +1,5 @@
 use Rattle.std.proofs.Common.{◌≡◌, ◌+◌, ◌++◌, length}
-use Rattle.tt_value.specs.BagRows.{IsBag, bag_of}
+use Rattle.tt_value.specs.values.Bags.{IsBag, bag_of}
 use Rattle.tt_value.proofs.bag.merged.Given as goal
 
 -- what is done and the bag of what is left are the whole

@@ -1,5 +1,5 @@
 use Rattle.std.proofs.Common.{◌≡◌, ◌⊎◌, ◌∙◌, length, inl, inr, sym}
-use Rattle.tt_value.specs.BagLaws.{minus_less_step, minus_same_step, minus_more_step, minus_end, IsBag-tail}
+use Rattle.tt_value.proofs.values.Bags.{minus_less_step, minus_same_step, minus_more_step, minus_end, IsBag-tail}
 use Rattle.tt_value.proofs.bag.remaining.Goals as goal
 use Rattle.tt_value.proofs.bag.remaining.Goals.{in_default, in_default-2}
 

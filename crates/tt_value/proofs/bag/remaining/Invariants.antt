@@ -1,5 +1,5 @@
 use Rattle.std.proofs.Common.{◌≡◌, ◌+◌, ◌++◌, length}
-use Rattle.tt_value.specs.BagRows.{IsBag, bag_minus}
+use Rattle.tt_value.specs.values.Bags.{IsBag, bag_minus}
 use Rattle.tt_value.proofs.bag.remaining.Given as goal
 
 -- what is kept and what is left less the rest are the whole

@@ -2,7 +2,7 @@ use Rattle.std.proofs.Common.{◌≡◌, sym, ap, ◌∙◌, arith, unsigned_abs
 use Rattle.std.proofs.lemmas.Int.{to_z-of_z}
 use Rattle.jiff_core.specs.Date.{epoch_day}
 use Rattle.jiff_core.proofs.SignedLemmas.{signed_arith}
-use Rattle.tt_value.specs.CalendarLaws.{numbered, parts_of, same_parts}
+use Rattle.tt_value.proofs.calendar.DayNumbers.{numbered, parts_of, same_parts}
 use Rattle.tt_value.proofs.date.date_parts.Goals as goal
 
 pub overflow_cast-result : goal.overflow_cast-result

@@ -1,4 +1,5 @@
-use Rattle.tt_value.specs.OrderLaws.{row_total, row_same}
+use Rattle.tt_value.specs.values.TotalOrder.{row_total}
+use Rattle.tt_value.proofs.values.Ties.{row_same}
 use Rattle.tt_value.proofs.order.rows_are_ordered.Goals as goal
 
 pub returns-clause-total : goal.returns-clause-total

@@ -1,4 +1,5 @@
-use Rattle.tt_value.specs.OrderLaws.{value_total, value_same}
+use Rattle.tt_value.specs.values.TotalOrder.{value_total}
+use Rattle.tt_value.proofs.values.Ties.{value_same}
 use Rattle.tt_value.proofs.order.values_are_ordered.Goals as goal
 
 pub returns-clause-total : goal.returns-clause-total

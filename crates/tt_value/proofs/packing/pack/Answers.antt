@@ -1,6 +1,6 @@
 use Rattle.std.proofs.Common.{◌≡◌, ◌+◌, ◌*◌, ◌<◌, ◌^◌, ◌%◌, ◌++◌, ℕ, get_or, arith, refl, ap}
 use Rattle.std.proofs.lemmas.Nat.{shl_whole}
-use Rattle.tt_value.proofs.PackingLaws.{joins_below, row_turn, row_ended, row_ended_more, pack_start}
+use Rattle.tt_value.proofs.columns.Packing.{joins_below, row_turn, row_ended, row_ended_more, pack_start}
 use Rattle.tt_value.proofs.packing.pack.Goals as goal
 
 pub loop-number-init : goal.loop-number-init

@@ -1,6 +1,6 @@
 use Rattle.std.proofs.Common.{◌≡◌, ◌^◌, ◌<◌, ◌++◌, drop}
-use Rattle.tt_value.specs.Packing.{packed}
-use Rattle.tt_value.proofs.PackingLaws.{to_come}
+use Rattle.tt_value.specs.columns.Packing.{packed}
+use Rattle.tt_value.proofs.columns.Packing.{to_come}
 use Rattle.tt_value.proofs.packing.pack.Given as goal
 
 abbrev pub invariant-loop-number : goal.invariant-loop-number

@@ -1,5 +1,5 @@
 use Rattle.std.proofs.Common.{arith}
-use Rattle.tt_value.proofs.PackingLaws.{byte_out, byte_out_below, row_more}
+use Rattle.tt_value.proofs.columns.Packing.{byte_out, byte_out_below, row_more}
 use Rattle.tt_value.proofs.packing.push_whole_bytes.Goals as goal
 
 pub loop-left-preserved : goal.loop-left-preserved

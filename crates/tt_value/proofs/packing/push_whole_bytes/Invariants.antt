@@ -1,5 +1,5 @@
 use Rattle.std.proofs.Common.{◌+◌, ◌≡◌, ℕ, ◌*◌, ◌^◌, ◌<◌, ◌++◌}
-use Rattle.tt_value.specs.Packing.{digits, bytes_for}
+use Rattle.tt_value.specs.columns.Packing.{digits, bytes_for}
 use Rattle.tt_value.proofs.packing.push_whole_bytes.Given as goal
 
 -- the bytes written and the bits that wait are one row, whatever follows

@@ -1,6 +1,6 @@
 use Rattle.std.proofs.Common.{◌^◌, ◌<◌, get_or, length, arith}
 use Rattle.std.proofs.lemmas.Nat.{shl_whole}
-use Rattle.tt_value.proofs.PackingLaws.{joins_below, byte_within, byte_taken}
+use Rattle.tt_value.proofs.columns.Packing.{joins_below, byte_within, byte_taken}
 use Rattle.tt_value.proofs.packing.short_word.Goals as goal
 
 pub overflow_add-word : goal.overflow_add-word

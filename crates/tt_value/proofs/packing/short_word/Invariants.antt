@@ -1,5 +1,5 @@
 use Rattle.std.proofs.Common.{◌≡◌, ◌+◌, ◌*◌, ◌^◌, ◌<◌, drop}
-use Rattle.tt_value.specs.Packing.{joined}
+use Rattle.tt_value.specs.columns.Packing.{joined}
 use Rattle.tt_value.proofs.packing.short_word.Given as goal
 
 abbrev pub invariant-loop-byte : goal.invariant-loop-byte

@@ -1,6 +1,6 @@
 use Rattle.std.proofs.Common.{arith, sym, ◌∙◌}
-use Rattle.tt_value.specs.Packing.{joined}
-use Rattle.tt_value.proofs.PackingLaws.{digit_out, digit_left, left_below, word_value, word_left, word_left_below}
+use Rattle.tt_value.specs.columns.Packing.{joined}
+use Rattle.tt_value.proofs.columns.Packing.{digit_out, digit_left, left_below, word_value, word_left, word_left_below}
 use Rattle.tt_value.proofs.packing.take_number.Goals as goal
 
 pub returns-then-width-bits-clause-value : goal.returns-then-width-bits-clause-value

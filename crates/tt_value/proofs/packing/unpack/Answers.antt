@@ -1,6 +1,6 @@
 use Rattle.std.proofs.Common.{arith, ◌∙◌, sym, inl, inr}
-use Rattle.tt_value.specs.Packing.{joined}
-use Rattle.tt_value.proofs.PackingLaws.{unpack_turn, unpack_left, unpack_more, unpack_fits, zero_tested, above_zero_tested}
+use Rattle.tt_value.specs.columns.Packing.{joined}
+use Rattle.tt_value.proofs.columns.Packing.{unpack_turn, unpack_left, unpack_more, unpack_fits, zero_tested, above_zero_tested}
 use Rattle.tt_value.proofs.packing.unpack.Goals as goal
 
 pub loop-turn-preserved : goal.loop-turn-preserved

@@ -1,5 +1,5 @@
 use Rattle.std.proofs.Common.{◌≡◌, ◌+◌, ◌-◌, ◌*◌, ◌/◌, ◌^◌, ◌<◌, ◌++◌}
-use Rattle.tt_value.specs.Packing.{joined, digits}
+use Rattle.tt_value.specs.columns.Packing.{joined, digits}
 use Rattle.tt_value.proofs.packing.unpack.Given as goal
 
 -- the bits that wait and the bytes behind them are the digits that are left

@@ -1,5 +1,5 @@
 use Rattle.std.proofs.Common.{arith}
-use Rattle.tt_value.proofs.PackingLaws.{width_holds}
+use Rattle.tt_value.proofs.columns.Packing.{width_holds}
 use Rattle.tt_value.proofs.packing.width_of.Goals as goal
 
 pub returns-clause-enough : goal.returns-clause-enough

@@ -1,4 +1,4 @@
-use Rattle.tt_value.specs.RowLaws.{OnErr-extends}
+use Rattle.tt_value.proofs.values.RowText.{OnErr-extends}
 use Rattle.tt_value.proofs.print.write_quoted.Goals as goal
 
 pub returns-in_err-extend_from_slice-clause-err : goal.returns-in_err-extend_from_slice-clause-err

@@ -1,5 +1,5 @@
 use Rattle.std.proofs.Common.{◌≡◌, ◌++◌, take}
-use Rattle.tt_value.specs.RowText.{quotes_doubled}
+use Rattle.tt_value.specs.values.RowText.{quotes_doubled}
 use Rattle.tt_value.proofs.print.write_quoted.Given as goal
 
 abbrev pub invariant-loop-byte : goal.invariant-loop-byte

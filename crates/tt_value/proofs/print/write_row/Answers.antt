@@ -1,4 +1,4 @@
-use Rattle.tt_value.specs.RowLaws.{OnErr-extends, printable_at, row_written}
+use Rattle.tt_value.proofs.values.RowText.{OnErr-extends, printable_at, row_written}
 use Rattle.tt_value.proofs.print.write_row.Goals as goal
 
 pub returns-in_err-push-clause-err : goal.returns-in_err-push-clause-err

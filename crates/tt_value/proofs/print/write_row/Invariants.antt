@@ -1,6 +1,6 @@
 use Rattle.std.proofs.Common.{◌≡◌, ◌∷◌, ◌++◌, take}
 use Rattle.std.specs.List.{flat_map}
-use Rattle.tt_value.specs.RowText.{value_text}
+use Rattle.tt_value.specs.values.RowText.{value_text}
 use Rattle.tt_value.proofs.print.write_row.Given as goal
 
 abbrev pub invariant-loop-value : goal.invariant-loop-value

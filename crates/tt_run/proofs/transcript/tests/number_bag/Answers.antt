@@ -1,8 +1,8 @@
 -- What holds of each row holds of each row of the bag.
 use Rattle.std.proofs.Common.{List, All, subst, sym}
 use Rattle.tt_value.specs.declared.value.Row.{Row}
-use Rattle.tt_value.specs.RowText.{IsPrintable}
-use Rattle.tt_value.specs.BagLaws.{All-bag_of}
+use Rattle.tt_value.specs.values.RowText.{IsPrintable}
+use Rattle.tt_value.proofs.values.Bags.{All-bag_of}
 use Rattle.tt_run.proofs.transcript.tests.number_bag.Goals as goal
 
 pub returns : goal.returns

@@ -4,7 +4,7 @@ use Rattle.tt_state.specs.PlainOf.{plain_of}
 use Rattle.tt_plain.specs.Carried.{built_carried}
 use Rattle.tt_plain.specs.Refusals.{refusal_over}
 use Rattle.tt_state.specs.Tickets.{SeesTables}
-use Rattle.tt_state.specs.OutcomeLaws.{sees_opened}
+use Rattle.tt_state.proofs.Outcomes.{sees_opened}
 use Rattle.tt_state.proofs.state.State.start.Goals as goal
 
 pub returns : goal.returns

@@ -1,4 +1,4 @@
-use Rattle.tt_value.specs.BagLaws.{IsBag-from_sort, bag_of-from_sort}
+use Rattle.tt_value.proofs.values.Bags.{IsBag-from_sort, bag_of-from_sort}
 use Rattle.tt_value.proofs.bag.Bag.from_rows.Goals as goal
 
 pub invariant_of-result : goal.invariant_of-result

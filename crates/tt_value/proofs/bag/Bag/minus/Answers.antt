@@ -1,6 +1,6 @@
 use Rattle.std.proofs.Common.{subst, sym}
-use Rattle.tt_value.specs.BagRows.{IsBag}
-use Rattle.tt_value.specs.BagLaws.{IsBag-bag_minus}
+use Rattle.tt_value.specs.values.Bags.{IsBag}
+use Rattle.tt_value.proofs.values.Bags.{IsBag-bag_minus}
 use Rattle.tt_value.proofs.bag.Bag.minus.Goals as goal
 
 pub invariant_of-result : goal.invariant_of-result

@@ -1,5 +1,5 @@
 use Rattle.std.proofs.Common.{◌++◌}
-use Rattle.tt_value.specs.BagLaws.{IsBag-bag_of}
+use Rattle.tt_value.proofs.values.Bags.{IsBag-bag_of}
 use Rattle.tt_value.proofs.bag.Bag.plus.Goals as goal
 
 pub invariant_of-result : goal.invariant_of-result

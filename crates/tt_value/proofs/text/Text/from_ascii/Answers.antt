@@ -1,6 +1,6 @@
 use Rattle.std.proofs.Common.{subst, sym, ◌∙◌}
-use Rattle.tt_value.specs.TextValue.{IsText}
-use Rattle.tt_value.specs.TextLaws.{IsUtf8-from_printable, IsText-from_printable}
+use Rattle.tt_value.specs.values.Texts.{IsText}
+use Rattle.tt_value.proofs.values.Texts.{IsUtf8-from_printable, IsText-from_printable}
 use Rattle.tt_value.proofs.text.Text.from_ascii.Goals as goal
 
 pub unreachable-requires : goal.unreachable-requires

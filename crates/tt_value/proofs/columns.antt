@@ -1,0 +1,9 @@
+pub mod Accepted
+pub mod Again
+pub mod Counting
+pub mod Distinct
+pub mod Indexes
+pub mod Lookups
+pub mod Loops
+pub mod Packing
+pub mod Runs

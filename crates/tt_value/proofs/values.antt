@@ -1,0 +1,4 @@
+pub mod Bags
+pub mod RowText
+pub mod Texts
+pub mod Ties

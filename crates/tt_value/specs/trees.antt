@@ -1,0 +1,4 @@
+pub mod Expressions
+pub mod Predicates
+pub mod Scope
+pub mod Truths
