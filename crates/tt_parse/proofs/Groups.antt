@@ -1,7 +1,7 @@
 -- How readers of some of the alternatives of a choice are put together.
 use Rattle.std.proofs.Common.{◌≡◌, true, false, List, [], Option, Result, Ok, Err, sym, subst}
 use Rattle.std.specs.Result.{IsErrAnd}
-use Rattle.tt_sql.specs.Grammar.{Mark, Gram, Either}
+use Rattle.tt_sql.specs.grammar.Grammar.{Mark, Gram, Either}
 use Rattle.tt_terminal.specs.declared.error.ParseError.{ParseError}
 use Rattle.tt_terminal.specs.declared.rest.Rest.{Rest}
 use Rattle.tt_terminal.specs.Fronts.{begins, solid}

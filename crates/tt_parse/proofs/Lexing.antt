@@ -9,8 +9,8 @@ use Rattle.tt_lex.specs.declared.Token.{Token}
 use Rattle.tt_lex.specs.declared.TokenKind.{TokenKind}
 use Rattle.tt_lex.specs.declared.TokenKind.TheVariants as kinds
 use Rattle.tt_lex.specs.Lexis.{Piece, Word, Number, Quoted, Sign, Blank, LineComment, BlockComment, is_quote, doubled, spelling, kind_of, text_of, AreInOrder, IsBetweenCharacters, IsSpelled}
-use Rattle.tt_sql.specs.Grammar.{Lexeme}
-use Rattle.tt_sql.specs.TokenKinds.{lexeme, lexemes, unquoted}
+use Rattle.tt_sql.specs.grammar.Grammar.{Lexeme}
+use Rattle.tt_sql.specs.grammar.TokenKinds.{lexeme, lexemes, unquoted}
 use Rattle.tt_terminal.specs.declared.rest.Lexed.{Lexed}
 use Rattle.tt_parse.specs.Lexing.{IsToken}
 use Rattle.tt_terminal.specs.Reading.{IsOf, seen_as}

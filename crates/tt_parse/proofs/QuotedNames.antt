@@ -10,10 +10,10 @@ use Rattle.tt_lex.specs.Lexis.{text_of, is_word_start, is_word_part}
 use Rattle.tt_value.specs.calendar.Reading.{day_of, timestamp_of}
 use Rattle.tt_value.specs.values.Texts.{IsPrintableAscii}
 use Rattle.tt_value.specs.declared.name.Quoted.{Quoted}
-use Rattle.tt_sql.specs.Grammar.{Said, Lexeme, Note, is_of}
-use Rattle.tt_sql.specs.FrontLaws.{false≢true, and_join, or_split}
-use Rattle.tt_sql.specs.Parts.{as_quoted_name, is_unit_text, quoted_name}
-use Rattle.tt_sql.specs.TokenKinds.{DATE_TEXT, TIME_TEXT, UNIT_TEXT, NAME_TEXT, OTHER_TEXT, is_name, is_quoted, is_word, text_kind, unit_words, unquoted, upper, word_kind}
+use Rattle.tt_sql.specs.grammar.Grammar.{Said, Lexeme, Note, is_of}
+use Rattle.tt_sql.proofs.grammar.Fronts.{false≢true, and_join, or_split}
+use Rattle.tt_sql.specs.grammar.Combinators.{as_quoted_name, is_unit_text, quoted_name}
+use Rattle.tt_sql.specs.grammar.TokenKinds.{DATE_TEXT, TIME_TEXT, UNIT_TEXT, NAME_TEXT, OTHER_TEXT, is_name, is_quoted, is_word, text_kind, unit_words, unquoted, upper, word_kind}
 use Rattle.tt_terminal.specs.declared.rest.Rest.{Rest}
 use Rattle.tt_terminal.specs.Reading.{IsOf, IsKnown, IsQuoted, Passes, seen_as, first_kind}
 use Rattle.tt_terminal.proofs.Quotes.{quoted_kind_is, quoted_says}

@@ -2,9 +2,9 @@
 use Rattle.std.proofs.Common.{◌≡◌, ℕ, List, [], ◌∷◌, length, map, Result, Ok, Err, refl, sym, ap, ◌∙◌, subst}
 use Rattle.std.specs.Result.{IsErrAnd}
 use Rattle.tt_sql.specs.declared.statement.Statement.{Statement}
-use Rattle.tt_sql.specs.Grammar.{Lexeme, Mark, Gram}
-use Rattle.tt_sql.specs.Read.{read_statement}
-use Rattle.tt_sql.specs.GrammarLaws.{read_run}
+use Rattle.tt_sql.specs.grammar.Grammar.{Lexeme, Mark, Gram}
+use Rattle.tt_sql.specs.machine.Factored.{read_statement}
+use Rattle.tt_sql.specs.machine.Reading.{read_run}
 use Rattle.tt_terminal.specs.declared.error.ParseError.{ParseError}
 use Rattle.tt_terminal.specs.declared.error.ParseError.TheVariants.{Syntax, Memory}
 use Rattle.tt_terminal.specs.declared.rest.Lexed.{Lexed}

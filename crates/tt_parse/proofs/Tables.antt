@@ -11,9 +11,9 @@ use Rattle.std.proofs.lemmas.Slice.Eq.{bytes_eq-Decides}
 use Rattle.std.proofs.lemmas.List.{get_or-map, length-map, drop_all}
 use Rattle.tt_lex.specs.Lexis.{is_sign}
 use Rattle.tt_lex.proofs.OneWay.{any_byte, any_bytes}
-use Rattle.tt_sql.specs.TokenKinds.{NAME, OPEN, UNKNOWN, place_in, reserved_words, other_words, unit_words, signs, upper, word_kind, sign_kind}
+use Rattle.tt_sql.specs.grammar.TokenKinds.{NAME, OPEN, UNKNOWN, place_in, reserved_words, other_words, unit_words, signs, upper, word_kind, sign_kind}
 use Rattle.tt_terminal.specs.KindNumbers.{kind_number}
-use Rattle.tt_sql.specs.StatementMarks.{unit_number}
+use Rattle.tt_sql.specs.marks.Statements.{unit_number}
 use Rattle.tt_sql.specs.declared.statement.TimeUnit.{TimeUnit}
 use Rattle.tt_parse.specs.Tables.{Entry, Stands, IsUnit, words_of, is_upper}
 

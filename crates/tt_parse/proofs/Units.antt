@@ -3,10 +3,10 @@ use Rattle.std.proofs.Common.{◌≡◌, ℕ, Bool, true, false, List, [], ◌�
 use Rattle.std.specs.List.{list_any}
 use Rattle.tt_lex.specs.Lexis.{text_of}
 use Rattle.tt_value.specs.declared.name.Quoted.{Quoted}
-use Rattle.tt_sql.specs.Grammar.{Way, Note}
-use Rattle.tt_sql.specs.TokenKinds.{DATE_TEXT, TIME_TEXT, UNIT_TEXT, NAME_TEXT, OTHER_TEXT, unit_words, upper, place_in, text_kind, unquoted}
-use Rattle.tt_sql.specs.Parts.{as_unit, one, ◌▸◌}
-use Rattle.tt_sql.specs.StatementMarks.{unit_number}
+use Rattle.tt_sql.specs.grammar.Grammar.{Way, Note}
+use Rattle.tt_sql.specs.grammar.TokenKinds.{DATE_TEXT, TIME_TEXT, UNIT_TEXT, NAME_TEXT, OTHER_TEXT, unit_words, upper, place_in, text_kind, unquoted}
+use Rattle.tt_sql.specs.grammar.Combinators.{as_unit, one, ◌▸◌}
+use Rattle.tt_sql.specs.marks.Statements.{unit_number}
 use Rattle.tt_sql.specs.declared.statement.TimeUnit.{TimeUnit}
 use Rattle.tt_terminal.specs.declared.rest.Rest.{Rest}
 use Rattle.tt_terminal.specs.Reading.{IsOf, IsKnown, IsQuoted, Passes, first_kind}

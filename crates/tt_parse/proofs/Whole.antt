@@ -1,17 +1,18 @@
 -- From the machine's reading of a whole text to the grammar as it is written.
 use Rattle.std.proofs.Common.{◌≡◌, ℕ, List, [], ◌∷◌, length, Result, Ok, Err, IfOk, ap, ◌∙◌, append-nil}
 use Rattle.tt_sql.specs.declared.statement.Statement.{Statement}
-use Rattle.tt_sql.specs.Grammar.{Lexeme, Mark}
-use Rattle.tt_sql.specs.Machine.{run, step, close, with_marks}
-use Rattle.tt_sql.specs.TokenKinds.{lexemes}
-use Rattle.tt_sql.specs.Read.{read_rule, read_statement}
-use Rattle.tt_sql.specs.StatementMarks.{statement_marks}
+use Rattle.tt_sql.specs.grammar.Grammar.{Lexeme, Mark}
+use Rattle.tt_sql.specs.machine.Machine.{run, step, close, with_marks}
+use Rattle.tt_sql.specs.grammar.TokenKinds.{lexemes}
+use Rattle.tt_sql.specs.machine.Factored.{read_rule, read_statement}
+use Rattle.tt_sql.specs.marks.Statements.{statement_marks}
 use Rattle.tt_lex.specs.TokensOf.{tokens_of}
 use Rattle.tt_lex.specs.declared.Token.{Token}
-use Rattle.tt_sql.specs.GrammarLaws.{read_run, statement_ok, statement_err, lexemes_known}
-use Rattle.tt_sql.specs.StatementGiven.{IsGivenStatement}
-use Rattle.tt_sql.specs.StatementOf.{IsTextOf, most_levels, statement_of}
-use Rattle.tt_sql.specs.StatementOfLaws.{found_fault, found_statement, is_fault_of, is_text_of}
+use Rattle.tt_sql.specs.machine.Reading.{read_run}
+use Rattle.tt_sql.proofs.machine.Statements.{statement_ok, statement_err, lexemes_known}
+use Rattle.tt_sql.specs.determined.Statements.{IsGivenStatement}
+use Rattle.tt_sql.specs.text.StatementOf.{IsTextOf, most_levels, statement_of}
+use Rattle.tt_sql.proofs.text.StatementOf.{found_fault, found_statement, is_fault_of, is_text_of}
 use Rattle.tt_terminal.specs.declared.error.ParseError.{ParseError}
 use Rattle.tt_terminal.specs.declared.error.ParseError.TheVariants.{Syntax, Memory}
 use Rattle.tt_terminal.specs.declared.rest.Rest.{Rest}

@@ -1,10 +1,10 @@
 -- What the reader of a whole statement answers.
 use Rattle.std.specs.Prelude.{◌≡◌, ℕ, List, Result, Ok, Err}
 use Rattle.tt_sql.specs.declared.statement.Statement.{Statement}
-use Rattle.tt_sql.specs.Grammar.{Lexeme}
-use Rattle.tt_sql.specs.StatementMarks.{statement_marks}
-use Rattle.tt_sql.specs.GrammarLaws.{read_run}
-use Rattle.tt_sql.specs.StatementOf.{HasSyntaxFault}
+use Rattle.tt_sql.specs.grammar.Grammar.{Lexeme}
+use Rattle.tt_sql.specs.marks.Statements.{statement_marks}
+use Rattle.tt_sql.specs.machine.Reading.{read_run}
+use Rattle.tt_sql.specs.text.StatementOf.{HasSyntaxFault}
 use Rattle.tt_terminal.specs.declared.error.ParseError.{ParseError}
 use Rattle.tt_terminal.specs.declared.error.ParseError.TheVariants.{Syntax, Memory}
 

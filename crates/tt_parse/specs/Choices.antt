@@ -1,10 +1,10 @@
 -- Readers of some of the alternatives of a choice, which may leave the others to another reader.
 use Rattle.std.specs.Prelude.{ℕ, List, [], Option, Some, None, Result, Ok, Err}
-use Rattle.tt_sql.specs.Grammar.{Mark, Gram}
-use Rattle.tt_sql.specs.TokenKinds.{EXPLAIN}
-use Rattle.tt_sql.specs.Parts.{one, way, ◌▸◌, ◌∣◌}
-use Rattle.tt_sql.specs.Read.{read_create, read_delete, read_insert, read_query, read_update}
-use Rattle.tt_sql.specs.Written.{copy, drop_table, undrop, truncate, alter, begin, commit, rollback, show, wait}
+use Rattle.tt_sql.specs.grammar.Grammar.{Mark, Gram}
+use Rattle.tt_sql.specs.grammar.TokenKinds.{EXPLAIN}
+use Rattle.tt_sql.specs.grammar.Combinators.{one, way, ◌▸◌, ◌∣◌}
+use Rattle.tt_sql.specs.machine.Factored.{read_create, read_delete, read_insert, read_query, read_update}
+use Rattle.tt_sql.specs.grammar.Written.{copy, drop_table, undrop, truncate, alter, begin, commit, rollback, show, wait}
 use Rattle.tt_terminal.specs.declared.error.ParseError.{ParseError}
 use Rattle.tt_terminal.specs.declared.rest.Rest.{Rest}
 use Rattle.tt_terminal.specs.Reading.{Passes, Fails, Errs}

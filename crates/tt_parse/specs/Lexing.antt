@@ -4,7 +4,7 @@ use Rattle.std.specs.Str.{IsUtf8}
 use Rattle.tt_lex.specs.declared.Token.{Token}
 use Rattle.tt_lex.specs.declared.TokenKind.TheVariants.{Quoted}
 use Rattle.tt_lex.specs.Lexis.{IsSpelled, text_of}
-use Rattle.tt_sql.specs.TokenKinds.{unquoted}
+use Rattle.tt_sql.specs.grammar.TokenKinds.{unquoted}
 
 -- a token of the text; what a quoted text means is again a text
 pub record IsToken (text : List ℕ) (token : Token) : Type 0 where

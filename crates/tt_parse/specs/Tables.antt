@@ -2,8 +2,8 @@
 use Rattle.std.specs.Prelude.{◌≡◌, ℕ, ◌<◌, Bool, true, List, length, map, get_or, bytes_eq}
 use Rattle.std.specs.List.{list_any}
 use Rattle.std.specs.Borrow.{Bor}
-use Rattle.tt_sql.specs.TokenKinds.{place_in, unit_words, upper}
-use Rattle.tt_sql.specs.StatementMarks.{unit_number}
+use Rattle.tt_sql.specs.grammar.TokenKinds.{place_in, unit_words, upper}
+use Rattle.tt_sql.specs.marks.Statements.{unit_number}
 use Rattle.tt_sql.specs.declared.statement.TimeUnit.{TimeUnit}
 use Rattle.tt_terminal.specs.declared.kind.LexemeKind.{LexemeKind}
 use Rattle.tt_terminal.specs.KindNumbers.{kind_number}

@@ -1,15 +1,15 @@
 //! Readers of statements that change rows.
 
 ghost use Rattle.std.specs.Prelude.{map, IfOk, ⊤};
-ghost use Rattle.tt_sql.specs.ChangeMarks.{copy_marks, delete_marks, insert_marks, insert_source_marks, names_marks, set_marks, tuple_marks, update_marks};
-ghost use Rattle.tt_sql.specs.Marks.{listed_marks, maybe_marks};
-ghost use Rattle.tt_sql.specs.QueryGiven.{IsListed, WhenThere};
-ghost use Rattle.tt_sql.specs.StatementGiven.{IsGivenDml, IsGivenInsertSource, IsGivenSet, IsGivenTuple};
+ghost use Rattle.tt_sql.specs.marks.Changes.{copy_marks, delete_marks, insert_marks, insert_source_marks, names_marks, set_marks, tuple_marks, update_marks};
+ghost use Rattle.tt_sql.specs.marks.Expressions.{listed_marks, maybe_marks};
+ghost use Rattle.tt_sql.specs.trees.Lists.{IsListed, WhenThere};
+ghost use Rattle.tt_sql.specs.determined.Statements.{IsGivenDml, IsGivenInsertSource, IsGivenSet, IsGivenTuple};
 ghost use Rattle.tt_sql.specs.declared.change.Dml.TheVariants as dml;
-ghost use Rattle.tt_sql.specs.Parts.{brackets, listed, maybe, name as name_part, one, way, ◌▸◌, ◌∣◌};
-ghost use Rattle.tt_sql.specs.Read.{read_delete, read_insert, read_query, read_set, read_update};
-ghost use Rattle.tt_sql.specs.TokenKinds.{VALUES};
-ghost use Rattle.tt_sql.specs.Written.{copy, tuple};
+ghost use Rattle.tt_sql.specs.grammar.Combinators.{brackets, listed, maybe, name as name_part, one, way, ◌▸◌, ◌∣◌};
+ghost use Rattle.tt_sql.specs.machine.Factored.{read_delete, read_insert, read_query, read_set, read_update};
+ghost use Rattle.tt_sql.specs.grammar.TokenKinds.{VALUES};
+ghost use Rattle.tt_sql.specs.grammar.Written.{copy, tuple};
 ghost use Rattle.tt_terminal.specs.Reading.{IsKnown, Reads};
 
 use sqlite_items::Items;

@@ -2,7 +2,7 @@
 
 ghost use Rattle.std.specs.Prelude.{◌≡◌, ◌<◌, ◌+◌, true, length, MatchOption};
 ghost use Rattle.std.specs.List.{list_all};
-ghost use Rattle.tt_sql.specs.TokenKinds.{place_in, upper, word_kind, sign_kind};
+ghost use Rattle.tt_sql.specs.grammar.TokenKinds.{place_in, upper, word_kind, sign_kind};
 ghost use Rattle.tt_parse.specs.Tables.{Stands, words_of, is_upper};
 ghost use Rattle.tt_terminal.specs.KindNumbers.{kind_number};
 ghost use Rattle.tt_lex.specs.Lexis.{is_sign};
@@ -136,7 +136,7 @@ fn kind_in(table: &[(&[u8], LexemeKind)], word: &[u8]) -> Option<LexemeKind>
 }
 
 /// The kind of a word.
-#[tactic(auto, unfolding(tt_sql::specs::TokenKinds::word_kind))]
+#[tactic(auto, unfolding(tt_sql::specs::grammar::TokenKinds::word_kind))]
 pub fn word_kind_of(word: &[u8]) -> LexemeKind
     ensures { kind_number result ≡ word_kind (upper word.now) }
 {
@@ -148,7 +148,7 @@ pub fn word_kind_of(word: &[u8]) -> LexemeKind
 }
 
 /// The kind of a sign.
-#[tactic(auto, unfolding(tt_sql::specs::TokenKinds::sign_kind))]
+#[tactic(auto, unfolding(tt_sql::specs::grammar::TokenKinds::sign_kind))]
 pub fn sign_kind_of(sign: &[u8]) -> LexemeKind
     requires { is_sign sign.now ≡ true }
     ensures { kind_number result ≡ sign_kind sign.now }

@@ -6,7 +6,7 @@ ghost use Rattle.std.specs.Char.{is_ascii_digit};
 ghost use Rattle.std.specs.Str.{IsUtf8};
 ghost use Rattle.tt_lex.specs.Lexis.{is_word_start, is_word_part};
 ghost use Rattle.tt_value.specs.values.Texts.{IsText};
-ghost use Rattle.tt_sql.specs.TokenKinds.{is_word as is_word_text, number_kind, text_kind, unquoted as unquoted_bytes};
+ghost use Rattle.tt_sql.specs.grammar.TokenKinds.{is_word as is_word_text, number_kind, text_kind, unquoted as unquoted_bytes};
 ghost use Rattle.tt_terminal.specs.KindNumbers.{kind_number};
 ghost use Rattle.tt_parse.specs.Lexing.{IsToken};
 ghost use Rattle.tt_terminal.specs.Reading.{IsOf};
@@ -57,7 +57,7 @@ fn lexed_of(alloc: Global, text: &[u8], token: Token) -> Result<Lexed, AllocErro
 }
 
 /// The kind of a number.
-#[tactic(auto, unfolding(tt_sql::specs::TokenKinds::number_kind))]
+#[tactic(auto, unfolding(tt_sql::specs::grammar::TokenKinds::number_kind))]
 fn number_kind_of(digits: &[u8]) -> LexemeKind
     requires { list_all is_ascii_digit digits.now ≡ true }
     ensures { kind_number result ≡ number_kind digits.now }
@@ -87,7 +87,7 @@ fn quoted_kind_of(alloc: Global, bytes: &[u8]) -> Result<LexemeKind, AllocError>
 }
 
 /// The kind of what a quoted text means.
-#[tactic(auto, unfolding(tt_sql::specs::TokenKinds::text_kind))]
+#[tactic(auto, unfolding(tt_sql::specs::grammar::TokenKinds::text_kind))]
 fn text_kind_of(text: &str) -> LexemeKind
     ensures { kind_number result ≡ text_kind text.now }
 {

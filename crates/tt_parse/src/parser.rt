@@ -2,8 +2,8 @@
 
 ghost use Rattle.std.specs.Prelude.{◌≡◌, ◌^◌, ◌<◌, length, Ok, IfOk};
 ghost use Rattle.tt_lex.specs.TokensOf.{tokens_of};
-ghost use Rattle.tt_sql.specs.StatementGiven.{IsGivenStatement};
-ghost use Rattle.tt_sql.specs.StatementOf.{IsTextOf, statement_of};
+ghost use Rattle.tt_sql.specs.determined.Statements.{IsGivenStatement};
+ghost use Rattle.tt_sql.specs.text.StatementOf.{IsTextOf, statement_of};
 ghost use Rattle.tt_parse.specs.Answers.{Answers, IsAtFault, Says};
 ghost use Rattle.tt_terminal.specs.Reading.{IsKnown, seen};
 

@@ -1,16 +1,17 @@
 //! Readers of statements that begin with SELECT, and of EXPLAIN.
 
 ghost use Rattle.std.specs.Prelude.{◌≡◌, false, [], ◌∷◌, ◌++◌, IfOk, MatchOption};
-ghost use Rattle.tt_sql.specs.Grammar.{Way};
-ghost use Rattle.tt_sql.specs.Marks.{table_marks};
-ghost use Rattle.tt_sql.specs.Parts.{one, quoted_name, ◌▸◌};
-ghost use Rattle.tt_sql.specs.QueryGiven.{IsAloneTable, IsGivenQuery, WhenThere};
-ghost use Rattle.tt_sql.specs.QueryMarks.{query_marks};
-ghost use Rattle.tt_sql.specs.Read.{read_query, read_select};
-ghost use Rattle.tt_sql.specs.SelectLaws.{begins_with};
-ghost use Rattle.tt_sql.specs.StatementGiven.{IsGivenStatement};
-ghost use Rattle.tt_sql.specs.StatementMarks.{statement_marks};
-ghost use Rattle.tt_sql.specs.TokenKinds.{EXPLAIN};
+ghost use Rattle.tt_sql.specs.grammar.Grammar.{Way};
+ghost use Rattle.tt_sql.specs.marks.Expressions.{table_marks};
+ghost use Rattle.tt_sql.specs.grammar.Combinators.{one, quoted_name, ◌▸◌};
+ghost use Rattle.tt_sql.specs.determined.Queries.{IsAloneTable, IsGivenQuery};
+ghost use Rattle.tt_sql.specs.trees.Lists.{WhenThere};
+ghost use Rattle.tt_sql.specs.marks.Queries.{query_marks};
+ghost use Rattle.tt_sql.specs.machine.Factored.{read_query, read_select};
+ghost use Rattle.tt_sql.specs.grammar.Lexemes.{begins_with};
+ghost use Rattle.tt_sql.specs.determined.Statements.{IsGivenStatement};
+ghost use Rattle.tt_sql.specs.marks.Statements.{statement_marks};
+ghost use Rattle.tt_sql.specs.grammar.TokenKinds.{EXPLAIN};
 ghost use Rattle.tt_terminal.specs.Reading.{IsKnown, Reads, seen};
 ghost use Rattle.tt_phrase.specs.Selects.{Follow, ReadsIf, depth_kinds, view_kinds};
 

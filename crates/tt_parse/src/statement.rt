@@ -1,13 +1,13 @@
 //! Readers of whole statements, and of those that are no queries and change no table.
 
 ghost use Rattle.std.specs.Prelude.{[], ◌==◌, IfOk};
-ghost use Rattle.tt_sql.specs.Grammar.{Tok};
-ghost use Rattle.tt_sql.specs.Marks.{flag_marks};
-ghost use Rattle.tt_sql.specs.QueryGiven.{WhenThere};
-ghost use Rattle.tt_sql.specs.Read.{read_statement};
-ghost use Rattle.tt_sql.specs.StatementGiven.{IsGivenStatement};
-ghost use Rattle.tt_sql.specs.StatementMarks.{statement_marks};
-ghost use Rattle.tt_sql.specs.Written.{begin, commit, rollback, show, spare};
+ghost use Rattle.tt_sql.specs.grammar.Grammar.{Tok};
+ghost use Rattle.tt_sql.specs.marks.Expressions.{flag_marks};
+ghost use Rattle.tt_sql.specs.trees.Lists.{WhenThere};
+ghost use Rattle.tt_sql.specs.machine.Factored.{read_statement};
+ghost use Rattle.tt_sql.specs.determined.Statements.{IsGivenStatement};
+ghost use Rattle.tt_sql.specs.marks.Statements.{statement_marks};
+ghost use Rattle.tt_sql.specs.grammar.Written.{begin, commit, rollback, show, spare};
 ghost use Rattle.tt_parse.specs.Choices.{Chooses, on_rows, on_tables, on_transactions, others};
 ghost use Rattle.tt_terminal.specs.KindNumbers.{kind_number};
 ghost use Rattle.tt_terminal.specs.Reading.{IsKnown, Passes, Reads};

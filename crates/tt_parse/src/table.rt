@@ -1,17 +1,18 @@
 //! Readers of statements that make and change tables.
 
 ghost use Rattle.std.specs.Prelude.{[], ◌++◌, map, IfOk, ⊤};
-ghost use Rattle.tt_sql.specs.Grammar.{Note, Tok};
-ghost use Rattle.tt_sql.specs.Marks.{listed_marks, maybe_marks, flag_marks, name_marks, number_marks, table_marks};
-ghost use Rattle.tt_sql.specs.Parts.{brackets, listed, maybe, name as name_part, number as number_part, one, way, ◌▸◌, ◌∣◌};
-ghost use Rattle.tt_sql.specs.QueryGiven.{IsAloneTable, IsListed};
-ghost use Rattle.tt_sql.specs.Read.{read_create};
-ghost use Rattle.tt_sql.specs.StatementGiven.{IsGivenChange, IsGivenStatement};
+ghost use Rattle.tt_sql.specs.grammar.Grammar.{Note, Tok};
+ghost use Rattle.tt_sql.specs.marks.Expressions.{listed_marks, maybe_marks, flag_marks, name_marks, number_marks, table_marks};
+ghost use Rattle.tt_sql.specs.grammar.Combinators.{brackets, listed, maybe, name as name_part, number as number_part, one, way, ◌▸◌, ◌∣◌};
+ghost use Rattle.tt_sql.specs.determined.Queries.{IsAloneTable};
+ghost use Rattle.tt_sql.specs.trees.Lists.{IsListed};
+ghost use Rattle.tt_sql.specs.machine.Factored.{read_create};
+ghost use Rattle.tt_sql.specs.determined.Statements.{IsGivenChange, IsGivenStatement};
 ghost use Rattle.tt_sql.specs.declared.statement.Statement.TheVariants as statement;
-ghost use Rattle.tt_sql.specs.StatementMarks.{statement_marks};
-ghost use Rattle.tt_sql.specs.TableMarks.{alter_marks, change_marks, definition_marks, kind_marks, options_marks, table_kind_marks};
-ghost use Rattle.tt_sql.specs.TokenKinds.{BY, CLOSE, CLUSTER, CLUSTERING, DROP, EQUAL, KEY, NAME, OPEN, RECLUSTER, RESUME, SHORT_NUMBER, SUSPEND, TRANSIENT, is_name, is_number};
-ghost use Rattle.tt_sql.specs.Written.{alter, change, column, create_front, drop_table, kind, name_and_number, only_number, options, retention, truncate, undrop};
+ghost use Rattle.tt_sql.specs.marks.Statements.{statement_marks};
+ghost use Rattle.tt_sql.specs.marks.Tables.{alter_marks, change_marks, definition_marks, kind_marks, options_marks, table_kind_marks};
+ghost use Rattle.tt_sql.specs.grammar.TokenKinds.{BY, CLOSE, CLUSTER, CLUSTERING, DROP, EQUAL, KEY, NAME, OPEN, RECLUSTER, RESUME, SHORT_NUMBER, SUSPEND, TRANSIENT, is_name, is_number};
+ghost use Rattle.tt_sql.specs.grammar.Written.{alter, change, column, create_front, drop_table, kind, name_and_number, only_number, options, retention, truncate, undrop};
 ghost use Rattle.tt_terminal.specs.Reading.{IsKnown, Passes, Reads};
 
 use sqlite_items::Items;

@@ -2,11 +2,11 @@
 
 ghost use Rattle.std.specs.Prelude.{◌≡◌, false, [], ◌∷◌, bytes_eq, MatchOption};
 ghost use Rattle.std.specs.List.{list_any};
-ghost use Rattle.tt_sql.specs.Grammar.{Note, Way};
-ghost use Rattle.tt_sql.specs.Parts.{as_unit, one, way, ◌▸◌, ◌∣◌};
-ghost use Rattle.tt_sql.specs.StatementMarks.{unit_number, wait_marks};
-ghost use Rattle.tt_sql.specs.TokenKinds.{COMMA, UNIT_TEXT, unit_words, upper};
-ghost use Rattle.tt_sql.specs.Written.{wait};
+ghost use Rattle.tt_sql.specs.grammar.Grammar.{Note, Way};
+ghost use Rattle.tt_sql.specs.grammar.Combinators.{as_unit, one, way, ◌▸◌, ◌∣◌};
+ghost use Rattle.tt_sql.specs.marks.Statements.{unit_number, wait_marks};
+ghost use Rattle.tt_sql.specs.grammar.TokenKinds.{COMMA, UNIT_TEXT, unit_words, upper};
+ghost use Rattle.tt_sql.specs.grammar.Written.{wait};
 ghost use Rattle.tt_terminal.specs.Reading.{IsKnown, Reads};
 ghost use Rattle.tt_parse.specs.Tables.{IsUnit};
 

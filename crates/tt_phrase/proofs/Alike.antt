@@ -1,10 +1,10 @@
 -- Parts that the machine reads alike, from these tokens on.
 use Rattle.std.proofs.Common.{◌≡◌, ℕ, Bool, true, false, List, [], ◌∷◌, ◌++◌, length, refl, sym, ap, ◌∙◌, append_assoc}
-use Rattle.tt_sql.specs.Grammar.{Lexeme, Mark, Gram, Tok, Deep, Note, Both, Either, Many, Again}
-use Rattle.tt_sql.specs.Machine.{run}
-use Rattle.tt_sql.specs.Read.{read_rule}
-use Rattle.tt_sql.specs.ItemLaws.{alike_below}
-use Rattle.tt_sql.specs.TokenKinds.{kind_count}
+use Rattle.tt_sql.specs.grammar.Grammar.{Lexeme, Mark, Gram, Tok, Deep, Note, Both, Either, Many, Again}
+use Rattle.tt_sql.specs.machine.Machine.{run}
+use Rattle.tt_sql.specs.machine.Factored.{read_rule}
+use Rattle.tt_sql.proofs.machine.Items.{alike_below}
+use Rattle.tt_sql.specs.grammar.TokenKinds.{kind_count}
 use Rattle.tt_terminal.specs.declared.rest.Rest.{Rest}
 use Rattle.tt_terminal.specs.Reading.{Passes, Fails, seen}
 use Rattle.tt_terminal.specs.Fronts.{begins, solid, front_kind}

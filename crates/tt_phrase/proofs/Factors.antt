@@ -5,11 +5,10 @@ use Rattle.tt_value.specs.calendar.Calendar.{day_text}
 use Rattle.tt_value.specs.declared.name.Literal.{Literal}
 use Rattle.tt_value.specs.declared.name.Name.{Name}
 use Rattle.tt_value.specs.declared.name.Quoted.{Quoted}
-use Rattle.tt_sql.specs.Grammar.{Mark, Way, At, Said, Gram, is_of}
-use Rattle.tt_sql.specs.Checks.{nowhere}
-use Rattle.tt_sql.specs.TokenKinds.{NULL, DATE, NAME, OTHER_TEXT, is_name, is_quoted}
-use Rattle.tt_sql.specs.Read.{or_date, but, read_other}
-use Rattle.tt_sql.specs.Marks.{name_marks, quoted_marks}
+use Rattle.tt_sql.specs.grammar.Grammar.{Mark, Way, At, Said, Gram, is_of, nowhere}
+use Rattle.tt_sql.specs.grammar.TokenKinds.{NULL, DATE, NAME, OTHER_TEXT, is_name, is_quoted}
+use Rattle.tt_sql.specs.machine.Factored.{or_date, but, read_other}
+use Rattle.tt_sql.specs.marks.Expressions.{name_marks, quoted_marks}
 use Rattle.tt_terminal.specs.declared.rest.Rest.{Rest}
 use Rattle.tt_terminal.specs.KindNumbers.{kind_number}
 use Rattle.tt_terminal.specs.Reading.{IsPlaced, IsName, IsQuoted, Passes, Fails, seen_as, first_kind}

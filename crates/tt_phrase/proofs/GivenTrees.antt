@@ -16,9 +16,10 @@ use Rattle.tt_value.specs.declared.predicate.Conjunction.{Conjunction, roll-Conj
 use Rattle.tt_value.specs.declared.predicate.Unit.{Unit as Test}
 use Rattle.tt_value.specs.declared.predicate.Unit.TheVariants as unit
 use Rattle.tt_value.specs.values.RowText.{IsPrintableValue}
-use Rattle.tt_sql.specs.Given.{AreGiven, Each, IsGivenAddend, IsGivenConjunction, IsGivenExpr, IsGivenFactor, IsGivenPredicate, IsGivenTerm, IsGivenUnit, addend_leaves, conjunction_leaves, factor_leaves, operand_leaves, literals_leaves, unit_leaves, term_leaves}
-use Rattle.tt_sql.specs.GivenLaws.{both_given, each_given, literals_given, leaves-Literal, leaves-Column, leaves-Bracket, leaves-Negated, leaves-Addend, leaves-Term, leaves-Expr, leaves-Not, leaves-Group, leaves-Compare, leaves-IsNull, leaves-In, leaves-Between, leaves-StartsWith, leaves-Conjunction, leaves-Predicate}
-use Rattle.tt_sql.specs.QueryGiven.{IsAlone, IsListed}
+use Rattle.tt_sql.specs.determined.Expressions.{AreGiven, IsGivenAddend, IsGivenConjunction, IsGivenExpr, IsGivenFactor, IsGivenPredicate, IsGivenTerm, IsGivenUnit, addend_leaves, conjunction_leaves, factor_leaves, operand_leaves, literals_leaves, unit_leaves, term_leaves}
+use Rattle.tt_sql.specs.trees.Lists.{Each, IsListed}
+use Rattle.tt_sql.proofs.determined.Expressions.{both_given, each_given, literals_given, leaves-Literal, leaves-Column, leaves-Bracket, leaves-Negated, leaves-Addend, leaves-Term, leaves-Expr, leaves-Not, leaves-Group, leaves-Compare, leaves-IsNull, leaves-In, leaves-Between, leaves-StartsWith, leaves-Conjunction, leaves-Predicate}
+use Rattle.tt_sql.specs.determined.Queries.{IsAlone}
 
 -- ---- lists that are pushed on
 

@@ -4,9 +4,9 @@ use Rattle.std.specs.Prelude.{is_some}
 use Rattle.tt_lex.specs.Lexis.{text_of}
 use Rattle.tt_value.specs.calendar.Reading.{timestamp_of}
 use Rattle.tt_value.specs.declared.name.Quoted.{Quoted}
-use Rattle.tt_sql.specs.Grammar.{Meant}
-use Rattle.tt_sql.specs.TokenKinds.{DATE_TEXT, TIME_TEXT, UNIT_TEXT, NAME_TEXT, OTHER_TEXT, text_kind, unquoted, lexeme}
-use Rattle.tt_sql.specs.Parts.{quoted_moment, moment_mark}
+use Rattle.tt_sql.specs.grammar.Grammar.{Meant}
+use Rattle.tt_sql.specs.grammar.TokenKinds.{DATE_TEXT, TIME_TEXT, UNIT_TEXT, NAME_TEXT, OTHER_TEXT, text_kind, unquoted, lexeme}
+use Rattle.tt_sql.specs.grammar.Combinators.{quoted_moment, moment_mark}
 use Rattle.tt_terminal.specs.declared.rest.Rest.{Rest}
 use Rattle.tt_terminal.specs.KindNumbers.{kind_number}
 use Rattle.tt_terminal.specs.Reading.{IsOf, IsKnown, IsQuoted, Passes, first_kind}

@@ -1,14 +1,14 @@
 -- Items: an expression, unless the word of an aggregate has a bracket behind it.
 use Rattle.std.proofs.Common.{◌≡◌, ℕ, zero, suc, Bool, true, false, ◌&&◌, ◌||◌, ◌==◌, List, [], ◌∷◌, length, refl, sym, ap, ◌∙◌}
-use Rattle.tt_sql.specs.Grammar.{Lexeme, Mark, At, Gram, Note}
-use Rattle.tt_sql.specs.Machine.{run}
-use Rattle.tt_sql.specs.Checks.{nowhere, empty}
-use Rattle.tt_sql.specs.StepLaws.{run_end}
-use Rattle.tt_sql.specs.TokenKinds.{COUNT, SUM, MIN, MAX, OPEN}
-use Rattle.tt_sql.specs.Parts.{way, one, ◌▸◌, ◌∣◌}
-use Rattle.tt_sql.specs.Read.{read_rule, read_item, read_expr, read_other, or_aggregate, word_place, tests}
-use Rattle.tt_sql.specs.ItemLaws.{NextIsNot, item_is_expr}
-use Rattle.tt_sql.specs.SelectLaws.{begins_with}
+use Rattle.tt_sql.specs.grammar.Grammar.{Lexeme, Mark, At, Gram, Note, nowhere}
+use Rattle.tt_sql.specs.machine.Machine.{run}
+use Rattle.tt_sql.proofs.machine.Decisions.{empty, tests}
+use Rattle.tt_sql.proofs.machine.Steps.{run_end}
+use Rattle.tt_sql.specs.grammar.TokenKinds.{COUNT, SUM, MIN, MAX, OPEN}
+use Rattle.tt_sql.specs.grammar.Combinators.{way, one, ◌▸◌, ◌∣◌}
+use Rattle.tt_sql.specs.machine.Factored.{read_rule, read_item, read_expr, read_other, or_aggregate, word_place}
+use Rattle.tt_sql.proofs.machine.Items.{NextIsNot, item_is_expr}
+use Rattle.tt_sql.specs.grammar.Lexemes.{begins_with}
 use Rattle.tt_terminal.specs.declared.rest.Rest.{Rest}
 use Rattle.tt_terminal.specs.Reading.{Passes, Fails, IsPlaced, IsWord, seen}
 use Rattle.tt_terminal.proofs.Running.{run_both}

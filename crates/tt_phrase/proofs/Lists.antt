@@ -1,11 +1,11 @@
 -- Readers of lists whose parts have commas between them.
 use Rattle.std.proofs.Common.{◌≡◌, ℕ, ◌≤◌, false, ◌==◌, List, [], ◌∷◌, ◌++◌, map, length, refl, sym, ap, ◌∙◌, subst, append_assoc, arith}
-use Rattle.tt_sql.specs.Grammar.{Mark, Way, Gram, Many}
-use Rattle.tt_sql.specs.Parts.{one, listed, ◌▸◌}
-use Rattle.tt_sql.specs.TokenKinds.{COMMA}
-use Rattle.tt_sql.specs.Marks.{repeated, listed_marks}
-use Rattle.tt_sql.specs.QueryGiven.{IsListed}
-use Rattle.tt_sql.specs.QueryMarks.{maybe_listed}
+use Rattle.tt_sql.specs.grammar.Grammar.{Mark, Way, Gram, Many}
+use Rattle.tt_sql.specs.grammar.Combinators.{one, listed, ◌▸◌}
+use Rattle.tt_sql.specs.grammar.TokenKinds.{COMMA}
+use Rattle.tt_sql.specs.marks.Expressions.{repeated, listed_marks}
+use Rattle.tt_sql.specs.trees.Lists.{IsListed}
+use Rattle.tt_sql.specs.marks.Queries.{maybe_listed}
 use Rattle.tt_terminal.specs.declared.rest.Rest.{Rest}
 use Rattle.tt_terminal.specs.Reading.{Passes, Fails, IsKnown, IsWord, first_kind}
 use Rattle.tt_phrase.proofs.GivenTrees.{each_push}

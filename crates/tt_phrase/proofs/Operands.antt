@@ -4,16 +4,14 @@ use Rattle.std.specs.Result.{IsErrAnd}
 use Rattle.tt_value.specs.calendar.Calendar.{day_text}
 use Rattle.tt_value.specs.declared.name.Literal.{Literal}
 use Rattle.tt_value.specs.declared.name.Name.{Name}
-use Rattle.tt_sql.specs.Grammar.{Lexeme, Mark, Way, Said, Gram, Both, is_of}
-use Rattle.tt_sql.specs.Checks.{nowhere}
-use Rattle.tt_sql.specs.ItemLaws.{NextIsNot, simple_is_operand}
-use Rattle.tt_sql.specs.Marks.{literal_marks, name_marks}
-use Rattle.tt_sql.specs.Parts.{◌▸◌, ◌∣◌, way, one, placed, number, quoted, as_negative, as_date, as_text}
-use Rattle.tt_sql.specs.Read.{but, or_date, negative, plain_name, read_operand, read_rule, read_simple, read_unit, unit_end}
-use Rattle.tt_sql.specs.SelectLaws.{begins_with}
-use Rattle.tt_sql.specs.TokenKinds.{DATE, DATE_TEXT, MINUS, NAME, NULL, OPEN, SHORT_NUMBER, STARTSWITH, is_name, is_negative}
-use Rattle.tt_sql.specs.Written.{literal}
-use Rattle.tt_sql.specs.Grammar.{Tok, Note}
+use Rattle.tt_sql.specs.grammar.Grammar.{Lexeme, Mark, Way, Said, Gram, Both, is_of, nowhere, Tok, Note}
+use Rattle.tt_sql.proofs.machine.Items.{NextIsNot, simple_is_operand}
+use Rattle.tt_sql.specs.marks.Expressions.{literal_marks, name_marks}
+use Rattle.tt_sql.specs.grammar.Combinators.{◌▸◌, ◌∣◌, way, one, placed, number, quoted, as_negative, as_date, as_text}
+use Rattle.tt_sql.specs.machine.Factored.{but, or_date, negative, plain_name, read_operand, read_rule, read_simple, read_unit, unit_end}
+use Rattle.tt_sql.specs.grammar.Lexemes.{begins_with}
+use Rattle.tt_sql.specs.grammar.TokenKinds.{DATE, DATE_TEXT, MINUS, NAME, NULL, OPEN, SHORT_NUMBER, STARTSWITH, is_name, is_negative}
+use Rattle.tt_sql.specs.grammar.Written.{literal}
 use Rattle.tt_terminal.specs.declared.error.ParseError.{ParseError}
 use Rattle.tt_terminal.specs.declared.error.ParseError.TheVariants.{Syntax, Memory}
 use Rattle.tt_terminal.specs.declared.rest.Rest.{Rest}

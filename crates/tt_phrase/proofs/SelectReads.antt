@@ -1,12 +1,13 @@
 -- Statements that begin with SELECT: a query, unless the words of another one stand there.
 use Rattle.std.proofs.Common.{◌≡◌, ℕ, Bool, true, false, ◌&&◌, ◌==◌, List, [], ◌∷◌, length, Option, Some, None, Result, Ok, Err, MatchOption, refl, sym, ap, ◌∙◌, subst}
 use Rattle.std.specs.Result.{IsErrAnd}
-use Rattle.tt_sql.specs.Grammar.{Lexeme, Mark, Way, Gram}
-use Rattle.tt_sql.specs.Machine.{run}
-use Rattle.tt_sql.specs.Read.{read_query, read_rule, read_select}
-use Rattle.tt_sql.specs.Parts.{one, quoted_name, way, ◌▸◌}
-use Rattle.tt_sql.specs.TokenKinds.{CLOSE, DOT, OPEN, TABLE_STORAGE_METRICS}
-use Rattle.tt_sql.specs.SelectLaws.{begins_with, select_is_query}
+use Rattle.tt_sql.specs.grammar.Grammar.{Lexeme, Mark, Way, Gram}
+use Rattle.tt_sql.specs.machine.Machine.{run}
+use Rattle.tt_sql.specs.machine.Factored.{read_query, read_rule, read_select}
+use Rattle.tt_sql.specs.grammar.Combinators.{one, quoted_name, way, ◌▸◌}
+use Rattle.tt_sql.specs.grammar.TokenKinds.{CLOSE, DOT, OPEN, TABLE_STORAGE_METRICS}
+use Rattle.tt_sql.specs.grammar.Lexemes.{begins_with}
+use Rattle.tt_sql.proofs.machine.Selects.{select_is_query}
 use Rattle.tt_terminal.specs.declared.error.ParseError.{ParseError}
 use Rattle.tt_terminal.specs.declared.rest.Rest.{Rest}
 use Rattle.tt_terminal.specs.Fronts.{front_kind}

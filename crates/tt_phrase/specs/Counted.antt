@@ -1,8 +1,8 @@
 -- What COUNT counts.
 use Rattle.std.specs.Prelude.{List, [], ◌∷◌, ◌++◌, Option, Some, None}
 use Rattle.tt_value.specs.declared.name.ColumnName.{ColumnName}
-use Rattle.tt_sql.specs.Grammar.{Mark, Way}
-use Rattle.tt_sql.specs.Marks.{column_marks}
+use Rattle.tt_sql.specs.grammar.Grammar.{Mark, Way}
+use Rattle.tt_sql.specs.marks.Expressions.{column_marks}
 
 -- the rows, or the values of a column
 abbrev pub counted_marks : Option ColumnName → List Mark

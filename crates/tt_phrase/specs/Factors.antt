@@ -3,13 +3,12 @@ use Rattle.std.specs.Prelude.{◌≡◌, ℕ, ℤ, false, ◌==◌, ◌⊎◌, [
 use Rattle.tt_value.specs.declared.name.Literal.{Literal}
 use Rattle.tt_value.specs.calendar.Calendar.{day_text}
 use Rattle.tt_value.specs.values.RowText.{IsPrintableValue}
-use Rattle.tt_sql.specs.Grammar.{Gram, Way, Said, Deep, Note, Again, Expr, Negated, is_of}
-use Rattle.tt_sql.specs.Checks.{nowhere}
-use Rattle.tt_sql.specs.TokenKinds.{NULL, DATE, DATE_TEXT, NAME, OTHER_TEXT, OPEN, CLOSE, MINUS, is_name, is_quoted}
-use Rattle.tt_sql.specs.Parts.{◌▸◌, ◌∣◌, way, as_place, one, placed, quoted}
-use Rattle.tt_sql.specs.Written.{begins_other}
-use Rattle.tt_sql.specs.Read.{negative, date_factor, plain_name, or_date}
-use Rattle.tt_sql.specs.Marks.{literal_marks}
+use Rattle.tt_sql.specs.grammar.Grammar.{Gram, Way, Said, Deep, Note, Again, Expr, Negated, is_of, nowhere}
+use Rattle.tt_sql.specs.grammar.TokenKinds.{NULL, DATE, DATE_TEXT, NAME, OTHER_TEXT, OPEN, CLOSE, MINUS, is_name, is_quoted}
+use Rattle.tt_sql.specs.grammar.Combinators.{◌▸◌, ◌∣◌, way, as_place, one, placed, quoted}
+use Rattle.tt_sql.specs.grammar.Written.{begins_other}
+use Rattle.tt_sql.specs.machine.Factored.{negative, date_factor, plain_name, or_date}
+use Rattle.tt_sql.specs.marks.Expressions.{literal_marks}
 use Rattle.tt_terminal.specs.declared.rest.Rest.{Rest}
 use Rattle.tt_terminal.specs.Reading.{IsPlaced, IsDayText, IsWord, first_kind}
 

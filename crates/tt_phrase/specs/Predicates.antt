@@ -1,9 +1,9 @@
 -- The parts of a predicate as they are read.
 use Rattle.std.specs.Prelude.{◌≡◌, ℕ, List, [], ◌++◌, Result, Ok, Err}
-use Rattle.tt_sql.specs.Grammar.{Mark, Gram, Again, Predicate, Unit}
-use Rattle.tt_sql.specs.Parts.{◌▸◌, ◌∣◌, one, way}
-use Rattle.tt_sql.specs.Read.{read_simple}
-use Rattle.tt_sql.specs.TokenKinds.{NOT, OPEN, CLOSE}
+use Rattle.tt_sql.specs.grammar.Grammar.{Mark, Gram, Again, Predicate, Unit}
+use Rattle.tt_sql.specs.grammar.Combinators.{◌▸◌, ◌∣◌, one, way}
+use Rattle.tt_sql.specs.machine.Factored.{read_simple}
+use Rattle.tt_sql.specs.grammar.TokenKinds.{NOT, OPEN, CLOSE}
 use Rattle.tt_terminal.specs.declared.error.ParseError.{ParseError}
 use Rattle.tt_terminal.specs.declared.rest.Rest.{Rest}
 use Rattle.tt_terminal.specs.Reading.{Passes, Errs}

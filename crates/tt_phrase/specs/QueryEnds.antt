@@ -1,10 +1,11 @@
 -- What the parts behind a query's table note, and what stands in them.
 use Rattle.std.specs.Prelude.{List, ◌++◌, map}
-use Rattle.tt_sql.specs.Grammar.{Mark}
-use Rattle.tt_sql.specs.Marks.{column_marks, maybe_marks, number_marks, predicate_marks}
-use Rattle.tt_sql.specs.Given.{Each, IsGivenPredicate}
-use Rattle.tt_sql.specs.QueryGiven.{IsAlone, IsGivenClause, IsGivenKey, WhenThere}
-use Rattle.tt_sql.specs.QueryMarks.{clause_marks, key_marks, maybe_listed}
+use Rattle.tt_sql.specs.grammar.Grammar.{Mark}
+use Rattle.tt_sql.specs.marks.Expressions.{column_marks, maybe_marks, number_marks, predicate_marks}
+use Rattle.tt_sql.specs.trees.Lists.{Each, WhenThere}
+use Rattle.tt_sql.specs.determined.Expressions.{IsGivenPredicate}
+use Rattle.tt_sql.specs.determined.Queries.{IsAlone, IsGivenClause, IsGivenKey}
+use Rattle.tt_sql.specs.marks.Queries.{clause_marks, key_marks, maybe_listed}
 use Rattle.tt_phrase.specs.declared.query.QueryEnd.{QueryEnd}
 
 abbrev pub query_end_marks : QueryEnd → List Mark

@@ -1,9 +1,9 @@
 -- What else than a query may begin with SELECT.
 use Rattle.std.specs.Prelude.{◌≡◌, ℕ, false, List, [], ◌∷◌, Option, Some, None, Result, Ok, Err}
-use Rattle.tt_sql.specs.Grammar.{Mark}
-use Rattle.tt_sql.specs.Read.{read_select}
-use Rattle.tt_sql.specs.SelectLaws.{begins_with}
-use Rattle.tt_sql.specs.TokenKinds.{DOT, FROM, INFORMATION_SCHEMA, OPEN, SELECT, STAR, SYSTEM_CLUSTERING_DEPTH}
+use Rattle.tt_sql.specs.grammar.Grammar.{Mark}
+use Rattle.tt_sql.specs.machine.Factored.{read_select}
+use Rattle.tt_sql.specs.grammar.Lexemes.{begins_with}
+use Rattle.tt_sql.specs.grammar.TokenKinds.{DOT, FROM, INFORMATION_SCHEMA, OPEN, SELECT, STAR, SYSTEM_CLUSTERING_DEPTH}
 use Rattle.tt_terminal.specs.declared.error.ParseError.{ParseError}
 use Rattle.tt_terminal.specs.declared.rest.Rest.{Rest}
 use Rattle.tt_terminal.specs.Reading.{Passes, Errs, IsWord, seen}

@@ -1,17 +1,16 @@
 //! Readers of expressions.
 
 ghost use Rattle.std.specs.Prelude.{◌≡◌, [], map, IfOk, MatchOption, true, false};
-ghost use Rattle.tt_sql.specs.Parts.{◌▸◌};
-ghost use Rattle.tt_sql.specs.Checks.{nowhere};
-ghost use Rattle.tt_sql.specs.Marks.{sign_marks, expr_marks, term_marks, addend_marks, factor_marks, repeated};
-ghost use Rattle.tt_sql.specs.Given.{Each, IsGivenAddend, IsGivenExpr, IsGivenFactor, IsGivenTerm};
-ghost use Rattle.tt_sql.specs.QueryGiven.{WhenThere};
-ghost use Rattle.tt_sql.specs.Written.{sign as sign_part};
-ghost use Rattle.tt_sql.specs.Read.{read_expr, read_factor, read_factors, read_terms, read_other};
+ghost use Rattle.tt_sql.specs.grammar.Combinators.{◌▸◌};
+ghost use Rattle.tt_sql.specs.grammar.Grammar.{nowhere, Gram};
+ghost use Rattle.tt_sql.specs.marks.Expressions.{sign_marks, expr_marks, term_marks, addend_marks, factor_marks, repeated};
+ghost use Rattle.tt_sql.specs.trees.Lists.{Each, WhenThere};
+ghost use Rattle.tt_sql.specs.determined.Expressions.{IsGivenAddend, IsGivenExpr, IsGivenFactor, IsGivenTerm};
+ghost use Rattle.tt_sql.specs.grammar.Written.{sign as sign_part};
+ghost use Rattle.tt_sql.specs.machine.Factored.{read_expr, read_factor, read_factors, read_terms, read_other};
 ghost use Rattle.tt_terminal.specs.Fronts.{begins};
 ghost use Rattle.tt_terminal.specs.Reading.{IsKnown, Offers, Passes, Reads, first_kind};
 ghost use Rattle.tt_phrase.specs.Factors.{IsDate, IsNoDate, IsNoSimple, simple_with, last_minus, nested};
-ghost use Rattle.tt_sql.specs.Grammar.{Gram};
 
 use sqlite_items::{Boxed, Items};
 use std::alloc::{AllocError, Global};

@@ -1,15 +1,15 @@
 //! Readers of what a query selects.
 
 ghost use Rattle.std.specs.Prelude.{◌≡◌, ℕ, false, [], ◌∷◌, ◌++◌, map, IfOk, MatchOption};
-ghost use Rattle.tt_sql.specs.Grammar.{At, Way};
-ghost use Rattle.tt_sql.specs.Checks.{nowhere};
-ghost use Rattle.tt_sql.specs.Read.{read_item};
-ghost use Rattle.tt_sql.specs.SelectLaws.{begins_with};
-ghost use Rattle.tt_sql.specs.Marks.{listed_marks, column_marks};
-ghost use Rattle.tt_sql.specs.QueryGiven.{IsAlone, IsGivenItem, IsGivenSelection, IsListed, WhenThere};
-ghost use Rattle.tt_sql.specs.QueryMarks.{item_marks, selection_marks};
-ghost use Rattle.tt_sql.specs.Parts.{listed, name as name_part, one, placed, way, ◌▸◌, ◌∣◌};
-ghost use Rattle.tt_sql.specs.TokenKinds.{CLOSE, OPEN, STAR};
+ghost use Rattle.tt_sql.specs.grammar.Grammar.{At, Way, nowhere};
+ghost use Rattle.tt_sql.specs.machine.Factored.{read_item};
+ghost use Rattle.tt_sql.specs.grammar.Lexemes.{begins_with};
+ghost use Rattle.tt_sql.specs.marks.Expressions.{listed_marks, column_marks};
+ghost use Rattle.tt_sql.specs.determined.Queries.{IsAlone, IsGivenItem, IsGivenSelection};
+ghost use Rattle.tt_sql.specs.trees.Lists.{IsListed, WhenThere};
+ghost use Rattle.tt_sql.specs.marks.Queries.{item_marks, selection_marks};
+ghost use Rattle.tt_sql.specs.grammar.Combinators.{listed, name as name_part, one, placed, way, ◌▸◌, ◌∣◌};
+ghost use Rattle.tt_sql.specs.grammar.TokenKinds.{CLOSE, OPEN, STAR};
 ghost use Rattle.tt_terminal.specs.declared.rest.Rest.{Rest};
 ghost use Rattle.tt_phrase.specs.Counted.{counted_marks};
 ghost use Rattle.tt_terminal.specs.KindNumbers.{kind_number};

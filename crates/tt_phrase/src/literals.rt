@@ -1,11 +1,11 @@
 //! Lists of literals.
 
 ghost use Rattle.std.specs.Prelude.{map, IfOk};
-ghost use Rattle.tt_sql.specs.QueryGiven.{IsListed};
+ghost use Rattle.tt_sql.specs.trees.Lists.{IsListed};
 ghost use Rattle.tt_value.specs.values.RowText.{IsPrintableValue};
-ghost use Rattle.tt_sql.specs.Marks.{listed_marks, literal_marks};
-ghost use Rattle.tt_sql.specs.Parts.{listed};
-ghost use Rattle.tt_sql.specs.Written.{literal as literal_part};
+ghost use Rattle.tt_sql.specs.marks.Expressions.{listed_marks, literal_marks};
+ghost use Rattle.tt_sql.specs.grammar.Combinators.{listed};
+ghost use Rattle.tt_sql.specs.grammar.Written.{literal as literal_part};
 ghost use Rattle.tt_terminal.specs.Reading.{IsKnown, Reads};
 
 use sqlite_items::Items;

@@ -1,13 +1,14 @@
 //! Readers of the moments at which queries and clones read.
 
 ghost use Rattle.std.specs.Prelude.{[], ◌∷◌, map, IfOk, ⊤};
-ghost use Rattle.tt_sql.specs.Grammar.{Meant, Way};
-ghost use Rattle.tt_sql.specs.Marks.{listed_marks, maybe_marks, number_marks};
-ghost use Rattle.tt_sql.specs.Parts.{brackets, maybe, one, quoted_moment, way, ◌▸◌, ◌∣◌};
-ghost use Rattle.tt_sql.specs.QueryGiven.{IsGivenClause, IsGivenMoment, IsListed, WhenThere};
-ghost use Rattle.tt_sql.specs.QueryMarks.{clause_marks, moment_marks};
-ghost use Rattle.tt_sql.specs.TokenKinds.{DOUBLE_COLON, MINUS};
-ghost use Rattle.tt_sql.specs.Written.{clause, either_timestamp, moment, product};
+ghost use Rattle.tt_sql.specs.grammar.Grammar.{Meant, Way};
+ghost use Rattle.tt_sql.specs.marks.Expressions.{listed_marks, maybe_marks, number_marks};
+ghost use Rattle.tt_sql.specs.grammar.Combinators.{brackets, maybe, one, quoted_moment, way, ◌▸◌, ◌∣◌};
+ghost use Rattle.tt_sql.specs.determined.Queries.{IsGivenClause, IsGivenMoment};
+ghost use Rattle.tt_sql.specs.trees.Lists.{IsListed, WhenThere};
+ghost use Rattle.tt_sql.specs.marks.Queries.{clause_marks, moment_marks};
+ghost use Rattle.tt_sql.specs.grammar.TokenKinds.{DOUBLE_COLON, MINUS};
+ghost use Rattle.tt_sql.specs.grammar.Written.{clause, either_timestamp, moment, product};
 ghost use Rattle.tt_terminal.specs.Reading.{IsKnown, Reads};
 
 use sqlite_items::Items;

@@ -1,13 +1,13 @@
 //! Readers of predicates.
 
 ghost use Rattle.std.specs.Prelude.{map, IfOk};
-ghost use Rattle.tt_sql.specs.Given.{Each, IsGivenConjunction, IsGivenPredicate, IsGivenUnit};
-ghost use Rattle.tt_sql.specs.QueryGiven.{WhenThere};
-ghost use Rattle.tt_sql.specs.Grammar.{Again, Many, Predicate as predicate_rule};
-ghost use Rattle.tt_sql.specs.Marks.{conjunction_marks, maybe_marks, predicate_marks, repeated, unit_marks};
-ghost use Rattle.tt_sql.specs.Parts.{maybe, one, ◌▸◌};
-ghost use Rattle.tt_sql.specs.Read.{read_conj, read_pred, read_unit};
-ghost use Rattle.tt_sql.specs.TokenKinds.{AND, OR, WHERE};
+ghost use Rattle.tt_sql.specs.trees.Lists.{Each, WhenThere};
+ghost use Rattle.tt_sql.specs.determined.Expressions.{IsGivenConjunction, IsGivenPredicate, IsGivenUnit};
+ghost use Rattle.tt_sql.specs.grammar.Grammar.{Again, Many, Predicate as predicate_rule};
+ghost use Rattle.tt_sql.specs.marks.Expressions.{conjunction_marks, maybe_marks, predicate_marks, repeated, unit_marks};
+ghost use Rattle.tt_sql.specs.grammar.Combinators.{maybe, one, ◌▸◌};
+ghost use Rattle.tt_sql.specs.machine.Factored.{read_conj, read_pred, read_unit};
+ghost use Rattle.tt_sql.specs.grammar.TokenKinds.{AND, OR, WHERE};
 ghost use Rattle.tt_phrase.specs.Predicates.{deeper_unit};
 ghost use Rattle.tt_terminal.specs.Reading.{IsKnown, Reads};
 

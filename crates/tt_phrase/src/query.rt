@@ -1,15 +1,15 @@
 //! Readers of queries.
 
 ghost use Rattle.std.specs.Prelude.{◌≡◌, ◌≤◌, [], ◌∷◌, ◌++◌, length, map, IfOk};
-ghost use Rattle.tt_sql.specs.Grammar.{At};
-ghost use Rattle.tt_sql.specs.Read.{read_query, read_query_end};
-ghost use Rattle.tt_sql.specs.Marks.{flag_marks, listed_marks, maybe_marks, column_marks, number_marks, table_marks};
-ghost use Rattle.tt_sql.specs.Given.{Each};
-ghost use Rattle.tt_sql.specs.QueryGiven.{IsAlone, IsAloneTable, IsGivenKey, IsGivenKeyColumn, IsGivenQuery, IsGivenSelection};
-ghost use Rattle.tt_sql.specs.QueryMarks.{key_marks, key_column_marks, maybe_listed, query_marks, selection_marks};
-ghost use Rattle.tt_sql.specs.Parts.{listed, maybe, name as name_part, number as number_part, one, way, ◌▸◌, ◌∣◌};
-ghost use Rattle.tt_sql.specs.TokenKinds.{ASC, BY, DESC, GROUP, LIMIT, ORDER};
-ghost use Rattle.tt_sql.specs.Written.{key};
+ghost use Rattle.tt_sql.specs.grammar.Grammar.{At};
+ghost use Rattle.tt_sql.specs.machine.Factored.{read_query, read_query_end};
+ghost use Rattle.tt_sql.specs.marks.Expressions.{flag_marks, listed_marks, maybe_marks, column_marks, number_marks, table_marks};
+ghost use Rattle.tt_sql.specs.trees.Lists.{Each};
+ghost use Rattle.tt_sql.specs.determined.Queries.{IsAlone, IsAloneTable, IsGivenKey, IsGivenKeyColumn, IsGivenQuery, IsGivenSelection};
+ghost use Rattle.tt_sql.specs.marks.Queries.{key_marks, key_column_marks, maybe_listed, query_marks, selection_marks};
+ghost use Rattle.tt_sql.specs.grammar.Combinators.{listed, maybe, name as name_part, number as number_part, one, way, ◌▸◌, ◌∣◌};
+ghost use Rattle.tt_sql.specs.grammar.TokenKinds.{ASC, BY, DESC, GROUP, LIMIT, ORDER};
+ghost use Rattle.tt_sql.specs.grammar.Written.{key};
 ghost use Rattle.tt_phrase.specs.QueryEnds.{IsGivenQueryEnd, query_end_marks};
 ghost use Rattle.tt_terminal.specs.Reading.{IsKnown, Passes, Reads};
 

@@ -1,16 +1,16 @@
 //! Readers of the units of a predicate in which no unit stands.
 
 ghost use Rattle.std.specs.Prelude.{◌≡◌, false, true, [], ◌∷◌, ◌++◌, map, IfOk, MatchOption};
-ghost use Rattle.tt_sql.specs.Checks.{nowhere};
-ghost use Rattle.tt_sql.specs.Given.{AreGiven, IsGivenUnit, operand_leaves};
-ghost use Rattle.tt_sql.specs.QueryGiven.{IsListed};
+ghost use Rattle.tt_sql.specs.grammar.Grammar.{nowhere};
+ghost use Rattle.tt_sql.specs.determined.Expressions.{AreGiven, IsGivenUnit, operand_leaves};
+ghost use Rattle.tt_sql.specs.trees.Lists.{IsListed};
 ghost use Rattle.tt_value.specs.values.RowText.{IsPrintableValue};
-ghost use Rattle.tt_sql.specs.Marks.{comparison_marks, flag_marks, listed_marks, literal_marks, operand_marks, unit_marks};
-ghost use Rattle.tt_sql.specs.Parts.{brackets, listed, name as name_part, one, quoted, way, ◌▸◌};
-ghost use Rattle.tt_sql.specs.Read.{in_or_between, read_operand, read_simple, unit_end};
-ghost use Rattle.tt_sql.specs.SelectLaws.{begins_with};
-ghost use Rattle.tt_sql.specs.TokenKinds.{CLOSE, COMMA, OPEN, STARTSWITH};
-ghost use Rattle.tt_sql.specs.Written.{compare, literal as literal_part};
+ghost use Rattle.tt_sql.specs.marks.Expressions.{comparison_marks, flag_marks, listed_marks, literal_marks, operand_marks, unit_marks};
+ghost use Rattle.tt_sql.specs.grammar.Combinators.{brackets, listed, name as name_part, one, quoted, way, ◌▸◌};
+ghost use Rattle.tt_sql.specs.machine.Factored.{in_or_between, read_operand, read_simple, unit_end};
+ghost use Rattle.tt_sql.specs.grammar.Lexemes.{begins_with};
+ghost use Rattle.tt_sql.specs.grammar.TokenKinds.{CLOSE, COMMA, OPEN, STARTSWITH};
+ghost use Rattle.tt_sql.specs.grammar.Written.{compare, literal as literal_part};
 ghost use Rattle.tt_phrase.specs.Selects.{Follow};
 ghost use Rattle.tt_terminal.specs.Fronts.{begins};
 ghost use Rattle.tt_phrase.specs.Predicates.{Completes};

@@ -26,8 +26,8 @@ use Rattle.tt_sql.specs.declared.change.InsertSource.TheVariants as source
 use Rattle.tt_sql.specs.declared.change.Tuple.{Tuple}
 use Rattle.tt_sql.specs.declared.change.Dml.TheVariants as dml
 use Rattle.tt_sql.specs.declared.statement.Statement.TheVariants as statement
-use Rattle.tt_sql.specs.Built.{has_values, built}
-use Rattle.tt_sql.specs.ChangeMeaning.{is_missing, is_missing_at, first_missing, for_column, given_value, in_order, stored_row, tuple_values, stores}
+use Rattle.tt_sql.specs.trees.Built.{has_values, built}
+use Rattle.tt_sql.specs.meaning.Changes.{is_missing, is_missing_at, first_missing, for_column, given_value, in_order, stored_row, tuple_values, stores}
 use Rattle.tt_plain.specs.Places.{each, each_at, if_there, table_begin}
 use Rattle.tt_plain.specs.Columns.{target_column}
 use Rattle.tt_plain.specs.Kinds.{literal_fits, unless, misfit_literal}

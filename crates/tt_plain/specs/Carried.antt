@@ -8,7 +8,7 @@ use Rattle.tt_sql.specs.declared.query.Query.{Query}
 use Rattle.tt_sql.specs.declared.table.CreatedTable.{CreatedTable}
 use Rattle.tt_sql.specs.declared.statement.Statement.{Statement}
 use Rattle.tt_sql.specs.declared.statement.Statement.TheVariants as statement
-use Rattle.tt_sql.specs.Built.{is_plain_create, has_values, is_plain_query, built}
+use Rattle.tt_sql.specs.trees.Built.{is_plain_create, has_values, is_plain_query, built}
 use Rattle.tt_plain.specs.Statements.{carried_out}
 
 pub data IsCarried : Result Statement ℕ → Type 0 where

@@ -13,8 +13,8 @@ use Rattle.tt_sql.specs.declared.change.Dml.TheVariants as dml
 use Rattle.tt_sql.specs.declared.change.InsertSource.{InsertSource}
 use Rattle.tt_sql.specs.declared.change.InsertSource.TheVariants as source
 use Rattle.tt_sql.specs.declared.change.Set.{Set}
-use Rattle.tt_sql.specs.Scopes.{query_scope, target_scope}
-use Rattle.tt_sql.specs.ChangeMeaning.{Staged, Records, BadRecord, NullInRecord, for_column, in_order}
+use Rattle.tt_sql.specs.meaning.Scopes.{query_scope, target_scope}
+use Rattle.tt_sql.specs.meaning.Changes.{Staged, Records, BadRecord, NullInRecord, for_column, in_order}
 use Rattle.tt_plain.specs.Columns.{column_named}
 use Rattle.tt_plain.specs.WrongCounts.{width}
 use Rattle.tt_plain.specs.StrictMeaning.{strict_beside, strict_value_of}

@@ -4,7 +4,7 @@ use Rattle.tt_value.specs.values.Bags.{bag_of, bag_plus}
 use Rattle.tt_value.specs.declared.value.Row.{Row}
 use Rattle.tt_value.specs.declared.value.Schema.{Schema}
 use Rattle.tt_sql.specs.declared.change.Insert.{Insert}
-use Rattle.tt_sql.specs.ChangeMeaning.{Changed, Changes, BadData, OutOfRange, NullInRow, insert_change}
+use Rattle.tt_sql.specs.meaning.Changes.{Changed, Changes, BadData, OutOfRange, NullInRow, insert_change}
 use Rattle.tt_plain.specs.declared.plain.Plain.{Plain}
 use Rattle.tt_plain.specs.declared.plain.PlainOpen.{PlainOpen}
 use Rattle.tt_plain.specs.declared.plain.PlainTable.{PlainTable}

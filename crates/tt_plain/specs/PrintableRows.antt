@@ -17,8 +17,8 @@ use Rattle.tt_value.specs.calendar.Reading.{day_of}
 use Rattle.tt_value.proofs.calendar.Dates.{day_of-read}
 use Rattle.tt_value.specs.values.RowText.{IsPrintable, IsPrintableValue}
 use Rattle.tt_sql.specs.declared.change.Tuple.{Tuple}
-use Rattle.tt_sql.specs.Given.{Each}
-use Rattle.tt_sql.specs.ChangeMeaning.{for_column, given_value, in_order, stored_row, tuple_values}
+use Rattle.tt_sql.specs.trees.Lists.{Each}
+use Rattle.tt_sql.specs.meaning.Changes.{for_column, given_value, in_order, stored_row, tuple_values}
 
 -- the values of a tuple can be written
 abbrev pub CanBeWritten : Tuple → Type 0

@@ -15,7 +15,7 @@ use Rattle.tt_sql.specs.declared.query.Item.TheVariants as item
 use Rattle.tt_sql.specs.declared.query.Key.{Key}
 use Rattle.tt_sql.specs.declared.query.KeyColumn.{KeyColumn}
 use Rattle.tt_sql.specs.declared.query.KeyColumn.TheVariants as key
-use Rattle.tt_sql.specs.QueryMeaning.{is_aggregate, column_values, key_place}
+use Rattle.tt_sql.specs.meaning.Queries.{is_aggregate, column_values, key_place}
 use Rattle.tt_plain.specs.Expressions.{part_of}
 use Rattle.tt_plain.specs.UnknownColumns.{unknown_in_query}
 use Rattle.tt_plain.specs.TypeMismatches.{misfit_in_query}

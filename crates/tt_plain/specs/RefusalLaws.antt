@@ -13,7 +13,7 @@ use Rattle.tt_sql.specs.declared.query.Query.{Query}
 use Rattle.tt_sql.specs.declared.table.CreatedTable.{CreatedTable}
 use Rattle.tt_sql.specs.declared.statement.Statement.{Statement}
 use Rattle.tt_sql.specs.declared.statement.Statement.TheVariants as statement
-use Rattle.tt_sql.specs.Built.{is_permanent, has_values, built}
+use Rattle.tt_sql.specs.trees.Built.{is_permanent, has_values, built}
 use Rattle.tt_history.specs.declared.reply.Refusal.TheVariants.{UnknownTable, TableExists}
 use Rattle.tt_plain.specs.declared.plain.Plain.{Plain}
 use Rattle.tt_plain.specs.declared.plain.PlainTable.{PlainTable}

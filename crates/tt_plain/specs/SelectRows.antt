@@ -5,8 +5,8 @@ use Rattle.std.specs.List.{filter_map}
 use Rattle.tt_value.specs.declared.value.Row.{Row}
 use Rattle.tt_value.specs.declared.value.Schema.{Schema}
 use Rattle.tt_sql.specs.declared.query.Query.{Query}
-use Rattle.tt_sql.specs.Scopes.{query_scope}
-use Rattle.tt_sql.specs.QueryMeaning.{answer_of}
+use Rattle.tt_sql.specs.meaning.Scopes.{query_scope}
+use Rattle.tt_sql.specs.meaning.Queries.{answer_of}
 use Rattle.tt_plain.specs.declared.plain.PlainOpen.{PlainOpen}
 use Rattle.tt_plain.specs.declared.plain.PlainTable.{PlainTable}
 use Rattle.tt_plain.specs.Answers.{◌>>=◌}

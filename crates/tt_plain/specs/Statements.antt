@@ -5,8 +5,8 @@ use Rattle.tt_script.specs.declared.script.Script.{Script}
 use Rattle.tt_script.specs.Program.{span_of, text_at}
 use Rattle.tt_sql.specs.declared.statement.Statement.{Statement}
 use Rattle.tt_sql.specs.declared.statement.Statement.TheVariants as statement
-use Rattle.tt_sql.specs.StatementOf.{statement_of}
-use Rattle.tt_sql.specs.Built.{built}
+use Rattle.tt_sql.specs.text.StatementOf.{statement_of}
+use Rattle.tt_sql.specs.trees.Built.{built}
 
 -- a session's statement, counted from 1: its tree, or the place of the fault of its text
 unfoldable pub statement_at : Script → ℕ → ℕ → Option (Result Statement ℕ)

@@ -9,7 +9,7 @@ use Rattle.tt_script.specs.declared.script.Script.{Script}
 use Rattle.tt_script.specs.declared.script.SessionText.{SessionText}
 use Rattle.tt_script.specs.Program.{span_of, text_at}
 use Rattle.tt_sql.specs.declared.statement.Statement.{Statement}
-use Rattle.tt_sql.specs.StatementOf.{statement_of}
+use Rattle.tt_sql.specs.text.StatementOf.{statement_of}
 use Rattle.tt_plain.specs.declared.plain.Plain.{Plain}
 use Rattle.tt_plain.specs.declared.plain.PlainSession.{PlainSession}
 use Rattle.tt_plain.specs.declared.plain.PlainOpen.{PlainOpen}

@@ -34,8 +34,8 @@ use Rattle.tt_sql.specs.declared.change.Update.{Update}
 use Rattle.tt_sql.specs.declared.statement.Statement.{Statement}
 use Rattle.tt_sql.specs.declared.statement.Statement.TheVariants as statement
 use Rattle.tt_plain.specs.Places.{each, each_at, if_there, column_begin}
-use Rattle.tt_sql.specs.QueryMeaning.{is_item_of, has_aggregate}
-use Rattle.tt_sql.specs.Scopes.{query_scope, target_scope}
+use Rattle.tt_sql.specs.meaning.Queries.{is_item_of, has_aggregate}
+use Rattle.tt_sql.specs.meaning.Scopes.{query_scope, target_scope}
 use Rattle.tt_plain.specs.Columns.{column_named, target_column}
 use Rattle.tt_plain.specs.Expressions.{part_of, lone_literal}
 use Rattle.tt_plain.specs.Kinds.{fits, literal_fits, unless, misfit_literal, is_date_kind, is_text}

@@ -40,8 +40,8 @@ use Rattle.tt_sql.specs.declared.table.CreatedTable.{CreatedTable}
 use Rattle.tt_sql.specs.declared.statement.Statement.{Statement}
 use Rattle.tt_sql.specs.declared.statement.Statement.TheVariants as statement
 use Rattle.tt_plain.specs.Places.{each, if_there, where_none, column_begin}
-use Rattle.tt_sql.specs.QueryMeaning.{is_item_of}
-use Rattle.tt_sql.specs.Scopes.{query_scope, target_scope}
+use Rattle.tt_sql.specs.meaning.Queries.{is_item_of}
+use Rattle.tt_sql.specs.meaning.Scopes.{query_scope, target_scope}
 use Rattle.tt_plain.specs.Columns.{column_named}
 use Rattle.tt_plain.specs.Expressions.{Step, fold_expr, fold_term, fold_factor}
 use Rattle.tt_plain.specs.Tables.{schema_at}

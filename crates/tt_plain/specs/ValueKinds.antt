@@ -8,7 +8,7 @@ use Rattle.tt_value.specs.declared.value.Column.{Column}
 use Rattle.tt_value.specs.declared.value.Row.{Row}
 use Rattle.tt_value.specs.declared.value.Schema.{Schema}
 use Rattle.tt_value.specs.trees.Scope.{column_place, kind_of}
-use Rattle.tt_sql.specs.ChangeMeaning.{is_missing}
+use Rattle.tt_sql.specs.meaning.Changes.{is_missing}
 
 -- NULL is of every kind, and where there is no kind it is all that there is.
 abbrev pub IsOf : Option Kind → Value → Type 0

@@ -13,9 +13,9 @@ use Rattle.tt_value.specs.trees.Predicates.{takes}
 use Rattle.tt_sql.specs.declared.query.Query.{Query}
 use Rattle.tt_sql.specs.declared.query.Selection.{Selection}
 use Rattle.tt_sql.specs.declared.query.Selection.TheVariants.{All, Listed}
-use Rattle.tt_sql.specs.Built.{is_star, reads_whole_table, ends_behind_rows, is_plain_query}
-use Rattle.tt_sql.specs.QueryMeaning.{all_some, selected, insert_by, sorted_by, arranged, taken_rows, selected_rows, answer_of}
-use Rattle.tt_sql.specs.Scopes.{query_scope}
+use Rattle.tt_sql.specs.trees.Built.{is_star, reads_whole_table, ends_behind_rows, is_plain_query}
+use Rattle.tt_sql.specs.meaning.Queries.{all_some, selected, insert_by, sorted_by, arranged, taken_rows, selected_rows, answer_of}
+use Rattle.tt_sql.specs.meaning.Scopes.{query_scope}
 use Rattle.tt_plain.specs.declared.plain.PlainOpen.{PlainOpen}
 use Rattle.tt_plain.specs.declared.plain.PlainTable.{PlainTable}
 use Rattle.tt_plain.specs.SoundStore.{SeeBags}

@@ -4,7 +4,7 @@ use Rattle.std.specs.Str.{bytes_eq}
 use Rattle.tt_value.specs.declared.value.Column.{Column}
 use Rattle.tt_value.specs.declared.value.Schema.{Schema}
 use Rattle.tt_value.specs.declared.name.Name.{Name}
-use Rattle.tt_sql.specs.Scopes.{query_scope}
+use Rattle.tt_sql.specs.meaning.Scopes.{query_scope}
 use Rattle.tt_sql.specs.declared.change.Dml.{Dml}
 use Rattle.tt_sql.specs.declared.change.Dml.TheVariants as dml
 use Rattle.tt_sql.specs.declared.change.Insert.{Insert}

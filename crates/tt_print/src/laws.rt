@@ -10,34 +10,33 @@ ghost use Rattle.tt_sql.specs.declared.table.Change.TheVariants.{RenameTo, SwapW
 ghost use Rattle.tt_sql.specs.declared.statement.Statement.{Statement};
 ghost use Rattle.tt_sql.specs.declared.statement.Statement.TheVariants.{Dml, Drop, Undrop, Truncate, Alter, Begin, Commit, Rollback, Show, Metrics};
 ghost use Rattle.tt_print.specs.text.Statements.{statement_words, statement_text};
-ghost use Rattle.tt_sql.specs.Grammar.{Mark, Way, Said, Meant};
-ghost use Rattle.tt_sql.specs.GrammarLaws.{IsStatement};
-ghost use Rattle.tt_sql.specs.TokenKinds.{lexemes};
+ghost use Rattle.tt_sql.specs.grammar.Grammar.{Mark, Way, Said, Meant};
+ghost use Rattle.tt_sql.specs.grammar.Statements.{IsStatement};
+ghost use Rattle.tt_sql.specs.grammar.TokenKinds.{lexemes};
 ghost use Rattle.tt_print.specs.again.Tokens.{IsWritable, tokens_at, lexemes_at};
 ghost use Rattle.std.specs.Fmt.{decimal};
 ghost use Rattle.tt_value.specs.declared.value.Value.{Value};
-ghost use Rattle.tt_sql.specs.Parts as parts;
+ghost use Rattle.tt_sql.specs.grammar.Combinators as parts;
 ghost use Rattle.tt_print.specs.text.Words.{quoted, value_words};
-ghost use Rattle.tt_sql.specs.PrintedLiterals.{IsWrittenValue};
-ghost use Rattle.tt_sql.specs.PrintedLiterals.{IsNameText};
+ghost use Rattle.tt_sql.specs.trees.Leaves.{IsWrittenValue, IsNameText};
 ghost use Rattle.tt_print.specs.again.Spelling.{IsSpelledBy, IsReadAs, place_behind, plain, printed_lexemes};
 ghost use Rattle.tt_print.specs.places.Marks.{unplaced};
 ghost use Rattle.tt_value.specs.declared.expression.Expr.{Expr};
 ghost use Rattle.tt_value.specs.declared.predicate.Predicate.{Predicate};
-ghost use Rattle.tt_sql.specs.Written.{literal, expr, pred, query, statement};
-ghost use Rattle.tt_sql.specs.Marks.{value_marks, expr_marks, predicate_marks};
+ghost use Rattle.tt_sql.specs.grammar.Written.{literal, expr, pred, query, statement};
+ghost use Rattle.tt_sql.specs.marks.Expressions.{value_marks, expr_marks, predicate_marks};
 ghost use Rattle.tt_print.specs.text.Expressions.{expr_words};
 ghost use Rattle.tt_print.specs.text.Predicates.{predicate_words};
 ghost use Rattle.tt_sql.specs.declared.query.Query.{Query};
 ghost use Rattle.tt_print.specs.text.Queries.{query_words};
-ghost use Rattle.tt_sql.specs.QueryMarks.{query_marks};
-ghost use Rattle.tt_sql.specs.PrintedQueries.{IsWrittenQuery};
-ghost use Rattle.tt_sql.specs.StatementMarks.{statement_marks};
-ghost use Rattle.tt_sql.specs.StatementOf.{most_levels, statement_of};
+ghost use Rattle.tt_sql.specs.marks.Queries.{query_marks};
+ghost use Rattle.tt_sql.specs.trees.Queries.{IsWrittenQuery};
+ghost use Rattle.tt_sql.specs.marks.Statements.{statement_marks};
+ghost use Rattle.tt_sql.specs.text.StatementOf.{most_levels, statement_of};
 ghost use Rattle.tt_print.specs.again.Texts.{IsReadAgain};
 ghost use Rattle.tt_print.specs.places.Trees.{unplaced_statement};
-ghost use Rattle.tt_sql.specs.PrintedStatements.{IsWrittenStatement};
-ghost use Rattle.tt_sql.specs.PrintedTrees.{IsWrittenExpr, IsWrittenPredicate};
+ghost use Rattle.tt_sql.specs.trees.Statements.{IsWrittenStatement};
+ghost use Rattle.tt_sql.specs.trees.Expressions.{IsWrittenExpr, IsWrittenPredicate};
 
 /// The tokens of a printed statement are its words, each where it stands in the text.
 pub fn a_printed_statement_has_its_words()

@@ -5,7 +5,7 @@ ghost use Rattle.std.specs.Prelude.{◌≡◌, ◌∷◌, [], ◌++◌, map, OnO
 ghost use Rattle.tt_value.specs.calendar.Calendar.{timestamp_text};
 ghost use Rattle.tt_print.specs.text.Words.{spaced, separated, number_words};
 ghost use Rattle.tt_print.specs.text.Queries.{side_word, timestamp_words, offset_words, id_words, moment_words, is_moment as moment_test, since_year_one as milliseconds_since, clock_of_day, timestamp_since, moment_bytes, moment_word, clause_words};
-ghost use Rattle.tt_sql.specs.PrintedLiterals.{IsMoment};
+ghost use Rattle.tt_sql.specs.trees.Leaves.{IsMoment};
 
 use crate::words::{write_if, write_number, write_quoted, write_word};
 use std::alloc::AllocError;

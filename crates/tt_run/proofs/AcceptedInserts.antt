@@ -21,13 +21,12 @@ use Rattle.tt_sql.specs.declared.change.InsertSource.TheVariants as source
 use Rattle.tt_sql.specs.declared.change.Tuple.{Tuple}
 use Rattle.tt_sql.specs.declared.change.Dml.TheVariants as dml
 use Rattle.tt_sql.specs.declared.statement.Statement.TheVariants as statement
-use Rattle.tt_sql.specs.ChangeMeaning.{for_column, given_value, stored_row, tuple_values}
-use Rattle.tt_sql.specs.PrintedLiterals.{IsWrittenValue}
-use Rattle.tt_sql.specs.PrintedStatements.{IsWrittenTuple, IsWrittenInsertSource}
-use Rattle.tt_sql.specs.PrintedTrees.{IsWrittenLiteral}
-use Rattle.tt_sql.specs.Given.{Each}
-use Rattle.tt_sql.specs.QueryGiven.{IsListed}
-use Rattle.tt_sql.specs.StatementOf.{most_levels}
+use Rattle.tt_sql.specs.meaning.Changes.{for_column, given_value, stored_row, tuple_values}
+use Rattle.tt_sql.specs.trees.Leaves.{IsWrittenValue}
+use Rattle.tt_sql.specs.trees.Statements.{IsWrittenTuple, IsWrittenInsertSource}
+use Rattle.tt_sql.specs.trees.Expressions.{IsWrittenLiteral}
+use Rattle.tt_sql.specs.trees.Lists.{Each, IsListed}
+use Rattle.tt_sql.specs.text.StatementOf.{most_levels}
 use Rattle.tt_plain.specs.InsertRows.{added_rows}
 use Rattle.tt_plain.specs.AcceptedInserts.{accepted_adds}
 use Rattle.tt_plain.specs.ListLaws.{nil_both}

@@ -17,10 +17,10 @@ use Rattle.tt_sql.specs.declared.table.CreatedTable.{CreatedTable}
 use Rattle.tt_sql.specs.declared.change.Dml.TheVariants as dml
 use Rattle.tt_sql.specs.declared.statement.Statement.{Statement}
 use Rattle.tt_sql.specs.declared.statement.Statement.TheVariants as statement
-use Rattle.tt_sql.specs.Built.{built}
-use Rattle.tt_sql.specs.PrintedStatements.{IsWrittenStatement}
-use Rattle.tt_sql.specs.StatementOf.{most_levels, statement_of}
-use Rattle.tt_sql.specs.StatementOfLaws.{is_text_of}
+use Rattle.tt_sql.specs.trees.Built.{built}
+use Rattle.tt_sql.specs.trees.Statements.{IsWrittenStatement}
+use Rattle.tt_sql.specs.text.StatementOf.{most_levels, statement_of}
+use Rattle.tt_sql.proofs.text.StatementOf.{is_text_of}
 use Rattle.tt_history.specs.declared.history.EntryKind.TheVariants as kind
 use Rattle.tt_history.specs.declared.history.Told.{Told}
 use Rattle.tt_history.specs.declared.history.Told.TheVariants as told

@@ -7,7 +7,7 @@ use Rattle.tt_script.specs.Program.{span_of, text_at}
 use Rattle.tt_script.specs.Script.{judged, sessions_read, script_of, front_of, answer_of}
 use Rattle.tt_script.specs.Lines.{lines_of, first_faulty}
 use Rattle.tt_sql.specs.declared.statement.Statement.{Statement}
-use Rattle.tt_sql.specs.StatementOf.{statement_of}
+use Rattle.tt_sql.specs.text.StatementOf.{statement_of}
 use Rattle.tt_plain.specs.declared.plain.Plain.{Plain}
 use Rattle.tt_plain.specs.Statements.{carried_out}
 use Rattle.tt_plain.specs.Store.{next_statement}

@@ -12,10 +12,10 @@ use Rattle.tt_sql.specs.declared.change.Insert.{Insert}
 use Rattle.tt_sql.specs.declared.change.Tuple.{Tuple}
 use Rattle.tt_sql.specs.declared.change.Dml.TheVariants as dml
 use Rattle.tt_sql.specs.declared.statement.Statement.TheVariants as statement
-use Rattle.tt_sql.specs.Built.{has_values}
-use Rattle.tt_sql.specs.ChangeMeaning.{for_column, given_value, stored_row, tuple_values}
-use Rattle.tt_sql.specs.PrintedStatements.{IsWrittenInsertSource}
-use Rattle.tt_sql.specs.StatementOf.{most_levels}
+use Rattle.tt_sql.specs.trees.Built.{has_values}
+use Rattle.tt_sql.specs.meaning.Changes.{for_column, given_value, stored_row, tuple_values}
+use Rattle.tt_sql.specs.trees.Statements.{IsWrittenInsertSource}
+use Rattle.tt_sql.specs.text.StatementOf.{most_levels}
 use Rattle.tt_plain.specs.InsertRows.{added_rows}
 use Rattle.tt_plain.specs.TypingRefusal.{typing_refusal}
 use Rattle.tt_plain.specs.ValueKinds.{IsFoundByName}

@@ -6,7 +6,7 @@ ghost use Rattle.std.specs.Str.{bytes_eq};
 ghost use Rattle.tt_value.specs.declared.name.Name.{Name as NameValue};
 ghost use Rattle.tt_value.specs.values.RowText.{IsPrintable};
 ghost use Rattle.tt_value.specs.trees.Scope.{value_or_null};
-ghost use Rattle.tt_sql.specs.ChangeMeaning.{for_column};
+ghost use Rattle.tt_sql.specs.meaning.Changes.{for_column};
 ghost use Rattle.tt_plain.specs.InsertRows.{added_rows};
 ghost use Rattle.tt_plain.specs.WrongCounts.{width};
 ghost use Rattle.tt_run.specs.InsertedRows.{written, stored_cells, stored_by_name, tuple_cells, stored_tuple, IsAccepted};

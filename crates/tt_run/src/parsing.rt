@@ -1,7 +1,7 @@
 //! What a statement's text says: its statement, or the place of its fault.
 
 ghost use Rattle.std.specs.Prelude.{◌≡◌, ◌<◌, ◌^◌, length, IfOk};
-ghost use Rattle.tt_sql.specs.StatementOf.{fault_place as place_of, statement_of};
+ghost use Rattle.tt_sql.specs.text.StatementOf.{fault_place as place_of, statement_of};
 ghost use Rattle.tt_plain.specs.Statements.{carried_out};
 ghost use Rattle.tt_run.specs.Reading.{as_read};
 
@@ -23,7 +23,7 @@ fn fault_place(fault: LexFault) -> u32
 }
 
 /// The statement of a text, or the place of its fault.
-#[tactic(auto, unfolding(tt_sql::specs::StatementOf::statement_of))]
+#[tactic(auto, unfolding(tt_sql::specs::text::StatementOf::statement_of))]
 pub fn read_statement(alloc: Global, text: &str) -> Result<Result<Statement, Syntax>, AllocError>
     requires { length text.now < 2 ^ 32 }
     ensures { IfOk result (λ read. as_read read ≡ statement_of text.now) }

@@ -1,7 +1,7 @@
 //! Which statements are carried out so far.
 
 ghost use Rattle.std.specs.Prelude.{◌≡◌};
-ghost use Rattle.tt_sql.specs.Built.{is_permanent, is_plain_create, has_values, is_plain_insert, is_star, reads_whole_table, ends_behind_rows, is_plain_query, built as is_built};
+ghost use Rattle.tt_sql.specs.trees.Built.{is_permanent, is_plain_create, has_values, is_plain_insert, is_star, reads_whole_table, ends_behind_rows, is_plain_query, built as is_built};
 
 use crate::change::{Dml, InsertSource};
 use crate::query::{Query, Selection};

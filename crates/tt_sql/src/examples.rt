@@ -13,10 +13,10 @@ ghost use Rattle.tt_value.specs.trees.Expressions.{on_numbers, negated, in_range
 ghost use Rattle.tt_sql.specs.declared.query.Item.TheVariants as item;
 ghost use Rattle.tt_sql.specs.declared.query.Selection.TheVariants as selection;
 ghost use Rattle.tt_sql.specs.declared.query.KeyColumn.TheVariants as key;
-ghost use Rattle.tt_sql.specs.QueryMeaning.{item_value, answer_of};
-ghost use Rattle.tt_sql.specs.ChangeMeaning.{Changes, NullInRow, OutOfRange, update_change, delete_change, insert_change};
+ghost use Rattle.tt_sql.specs.meaning.Queries.{item_value, answer_of};
+ghost use Rattle.tt_sql.specs.meaning.Changes.{Changes, NullInRow, OutOfRange, update_change, delete_change, insert_change};
 ghost use Rattle.tt_sql.specs.declared.change.InsertSource.TheVariants as source;
-ghost use Rattle.tt_sql.specs.MeaningExamples.{scope, row_of, ints, just_ints, x, y, d, s, int, literal, number, name, query, alone, sum, schema, strict, numbers, table, compare, is_null, is_in, is_between, negation, one, both, whole, either};
+ghost use Rattle.tt_sql.specs.meaning.Examples.{scope, row_of, ints, just_ints, x, y, d, s, int, literal, number, name, query, alone, sum, schema, strict, numbers, table, compare, is_null, is_in, is_between, negation, one, both, whole, either};
 
 /// NULL in comparisons, IN, BETWEEN, AND, OR and NOT; dates in quotes.
 #[tactic(auto, unfolding(tt_value::specs::values::Order::value_cmp, tt_value::specs::calendar::Reading::day_of))]
@@ -44,7 +44,7 @@ pub fn predicates_by_example()
 {}
 
 /// Sums, counts, groups, the order and the limit of an answer.
-#[tactic(auto, unfolding(tt_value::specs::values::Order::value_cmp, tt_value::specs::values::Order::row_cmp, crate::specs::QueryMeaning::answer_of, crate::specs::QueryMeaning::selected_rows, crate::specs::QueryMeaning::arranged))]
+#[tactic(auto, unfolding(tt_value::specs::values::Order::value_cmp, tt_value::specs::values::Order::row_cmp, crate::specs::meaning::Queries::answer_of, crate::specs::meaning::Queries::selected_rows, crate::specs::meaning::Queries::arranged))]
 pub fn answers_by_example()
     // COUNT(*) of two rows, COUNT of a column with one NULL, SUM over nothing, MIN of texts
     ensures count_all { item_value scope (ints (1 ∷ 2 ∷ [])) (item.CountAll 0) ≡ Some (Int (pos 2)) }
@@ -75,7 +75,7 @@ pub fn numbers_by_example()
 {}
 
 /// A sum out of range in a row that the limit cuts off, two rows alike that are changed, and SETs that read the old row.
-#[tactic(auto, using(crate::proofs::ExampleLaws::value_of_sum, crate::proofs::ExampleLaws::value_of_column), unfolding(tt_value::specs::values::Order::value_cmp, tt_value::specs::values::Order::row_cmp, crate::specs::QueryMeaning::answer_of, crate::specs::QueryMeaning::selected_rows, crate::specs::QueryMeaning::arranged))]
+#[tactic(auto, using(crate::proofs::meaning::Examples::value_of_sum, crate::proofs::meaning::Examples::value_of_column), unfolding(tt_value::specs::values::Order::value_cmp, tt_value::specs::values::Order::row_cmp, crate::specs::meaning::Queries::answer_of, crate::specs::meaning::Queries::selected_rows, crate::specs::meaning::Queries::arranged))]
 pub fn changes_by_example()
     // SELECT x + 1 FROM t LIMIT 0 over the greatest number
     ensures limit_hides_nothing { answer_of scope (query (selection.Listed (item.Expr (sum (factor.Column x) (factor.Literal (int 1))) ∷ [])) [] [] (Some (number 0))) (ints (9223372036854775807 ∷ [])) ≡ None }

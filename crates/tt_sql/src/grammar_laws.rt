@@ -3,13 +3,14 @@
 ghost use Rattle.std.specs.Prelude.{◌≡◌, ℕ, List, [], ◌∷◌, ◌++◌, map, codes, replicate, Ok, Err};
 ghost use Rattle.tt_lex.specs.declared.Token.{Token};
 ghost use Rattle.std.specs.Prelude.{pos, neg_ℤ};
-ghost use Rattle.tt_sql.specs.Grammar.{Lexeme, Mark, Way, At, Said, Meant};
-ghost use Rattle.tt_sql.specs.GrammarExamples.{word, number, text, sign, deep, Notes, Faults};
-ghost use Rattle.tt_sql.specs.Checks.{AreKinds};
-ghost use Rattle.tt_sql.specs.GrammarLaws.{IsStatement, HasFaultAt, read_run};
-ghost use Rattle.tt_sql.specs.TokenKinds.{kind_count, lexemes, word_kind, number_kind, text_kind, sign_kind, unquoted, reserved_words, other_words, signs, NAME, LONG_NAME, SHORT_NUMBER, NUMBER, LEAST_NUMBER, LARGE_NUMBER, DATE_TEXT, TIME_TEXT, UNIT_TEXT, NAME_TEXT, OTHER_TEXT};
+ghost use Rattle.tt_sql.specs.grammar.Grammar.{Lexeme, Mark, Way, At, Said, Meant};
+ghost use Rattle.tt_sql.specs.grammar.Examples.{word, number, text, sign, deep, Notes, Faults};
+ghost use Rattle.tt_sql.specs.grammar.Lexemes.{AreKinds};
+ghost use Rattle.tt_sql.specs.grammar.Statements.{IsStatement, HasFaultAt};
+ghost use Rattle.tt_sql.specs.machine.Reading.{read_run};
+ghost use Rattle.tt_sql.specs.grammar.TokenKinds.{kind_count, lexemes, word_kind, number_kind, text_kind, sign_kind, unquoted, reserved_words, other_words, signs, NAME, LONG_NAME, SHORT_NUMBER, NUMBER, LEAST_NUMBER, LARGE_NUMBER, DATE_TEXT, TIME_TEXT, UNIT_TEXT, NAME_TEXT, OTHER_TEXT};
 ghost use Rattle.tt_lex.specs.Lexis.{Quoted, spelling};
-ghost use Rattle.tt_sql.specs.KindExamples.{words_in_order, signs_in_order};
+ghost use Rattle.tt_sql.specs.grammar.KindExamples.{words_in_order, signs_in_order};
 
 /// A machine that looks at one token at a time reads just the statements of the grammar as it is written, with
 /// at most so many open levels. Where the tokens are none it stops at the place of their fault.
@@ -35,7 +36,7 @@ pub fn tokens_have_one_reading()
 {}
 
 /// The kinds of the words and signs are those that are named after them.
-#[tactic(auto, unfolding(crate::specs::TokenKinds::word_kind, crate::specs::TokenKinds::sign_kind))]
+#[tactic(auto, unfolding(crate::specs::grammar::TokenKinds::word_kind, crate::specs::grammar::TokenKinds::sign_kind))]
 pub fn kinds_are_of_their_words()
     ensures words { map word_kind (reserved_words ++ other_words) ≡ words_in_order }
     ensures signs { map sign_kind signs ≡ signs_in_order }
@@ -46,7 +47,7 @@ pub fn kinds_are_of_their_words()
 {}
 
 /// The kinds of numbers and of quoted texts at their limits.
-#[tactic(auto, unfolding(crate::specs::TokenKinds::word_kind, crate::specs::TokenKinds::number_kind, crate::specs::TokenKinds::text_kind, tt_value::specs::calendar::Reading::day_of, tt_value::specs::calendar::Reading::clock_of, tt_value::specs::calendar::Reading::timestamp_of))]
+#[tactic(auto, unfolding(crate::specs::grammar::TokenKinds::word_kind, crate::specs::grammar::TokenKinds::number_kind, crate::specs::grammar::TokenKinds::text_kind, tt_value::specs::calendar::Reading::day_of, tt_value::specs::calendar::Reading::clock_of, tt_value::specs::calendar::Reading::timestamp_of))]
 pub fn kinds_by_example()
     ensures nine_digits { number_kind (codes "999999999") ≡ SHORT_NUMBER }
     ensures ten_digits { number_kind (codes "0000000001") ≡ NUMBER }

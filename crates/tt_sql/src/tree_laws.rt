@@ -11,20 +11,20 @@ ghost use Rattle.std.specs.Prelude.{Some, Ok, Err, List, length, ◌↔◌, ◌�
 ghost use Rattle.tt_lex.specs.declared.Token.{Token};
 ghost use Rattle.tt_lex.specs.declared.LexFault.{LexFault};
 ghost use Rattle.tt_lex.specs.TokensOf.{tokens_of};
-ghost use Rattle.tt_sql.specs.GrammarLaws.{IsStatement, HasFaultAt};
-ghost use Rattle.tt_sql.specs.TokenKinds.{lexemes};
-ghost use Rattle.tt_sql.specs.StatementOf.{most_levels, fault_place, IsTextOf, HasSyntaxFault, statement_of};
-ghost use Rattle.tt_sql.specs.Grammar.{Mark, Lexeme};
-ghost use Rattle.tt_sql.specs.LexemeFacts.{AreLexemes};
+ghost use Rattle.tt_sql.specs.grammar.Statements.{IsStatement, HasFaultAt};
+ghost use Rattle.tt_sql.specs.grammar.TokenKinds.{lexemes};
+ghost use Rattle.tt_sql.specs.text.StatementOf.{most_levels, fault_place, IsTextOf, HasSyntaxFault, statement_of};
+ghost use Rattle.tt_sql.specs.grammar.Grammar.{Mark, Lexeme};
+ghost use Rattle.tt_sql.specs.grammar.Lexemes.{AreLexemes};
 ghost use Rattle.tt_sql.specs.declared.statement.Statement.{Statement};
-ghost use Rattle.tt_sql.specs.StatementGiven.{IsGivenStatement};
-ghost use Rattle.tt_sql.specs.PrintedStatements.{IsWrittenStatement};
-ghost use Rattle.tt_sql.specs.StatementMarks.{statement_marks};
-ghost use Rattle.tt_sql.specs.StatementTrees.{statement_tree};
-ghost use Rattle.tt_sql.specs.QueryMarks.{query_marks};
-ghost use Rattle.tt_sql.specs.QueryGiven.{IsGivenQuery};
-ghost use Rattle.tt_sql.specs.Given.{IsGivenExpr, IsGivenTerm, IsGivenFactor, IsGivenPredicate, IsGivenUnit};
-ghost use Rattle.tt_sql.specs.Marks.{expr_marks, term_marks, factor_marks, predicate_marks, unit_marks};
+ghost use Rattle.tt_sql.specs.determined.Statements.{IsGivenStatement};
+ghost use Rattle.tt_sql.specs.trees.Statements.{IsWrittenStatement};
+ghost use Rattle.tt_sql.specs.marks.Statements.{statement_marks};
+ghost use Rattle.tt_sql.specs.machine.StatementTrees.{statement_tree};
+ghost use Rattle.tt_sql.specs.marks.Queries.{query_marks};
+ghost use Rattle.tt_sql.specs.determined.Queries.{IsGivenQuery};
+ghost use Rattle.tt_sql.specs.determined.Expressions.{IsGivenExpr, IsGivenTerm, IsGivenFactor, IsGivenPredicate, IsGivenUnit};
+ghost use Rattle.tt_sql.specs.marks.Expressions.{expr_marks, term_marks, factor_marks, predicate_marks, unit_marks};
 
 /// Two expressions that the grammar gives are the same if their derivations note the same marks. So are two
 /// terms, and two factors.

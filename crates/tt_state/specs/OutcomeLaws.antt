@@ -2,7 +2,7 @@
 use Rattle.std.proofs.Common.{◌≡◌, ℕ, ◌+◌, List, [], Option, Some, Ok, refl, sym, ◌∙◌, ap, true, length}
 use Rattle.tt_value.specs.declared.value.Row.{Row}
 use Rattle.tt_script.specs.declared.script.Script.{Script}
-use Rattle.tt_sql.specs.Built.{is_plain_query}
+use Rattle.tt_sql.specs.trees.Built.{is_plain_query}
 use Rattle.tt_sql.specs.declared.change.Insert.{Insert}
 use Rattle.tt_sql.specs.declared.change.Dml.TheVariants as dml
 use Rattle.tt_sql.specs.declared.query.Query.{Query}

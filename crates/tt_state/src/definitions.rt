@@ -1,7 +1,7 @@
 //! Definitions: the tables that they make.
 
 ghost use Rattle.std.specs.Prelude.{◌≡◌, ◌+◌, ◌<◌, ◌^◌, length, map, IfOk, OnOk, OnErr, true, Ok, []};
-ghost use Rattle.tt_sql.specs.Built.{built as is_built};
+ghost use Rattle.tt_sql.specs.trees.Built.{built as is_built};
 ghost use Rattle.tt_plain.specs.CreateTable.{column_made, new_table as table_of, with_table};
 ghost use Rattle.tt_plain.specs.Statements.{is_definition};
 ghost use Rattle.tt_plain.specs.Store.{with_ended};

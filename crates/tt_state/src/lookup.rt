@@ -3,7 +3,7 @@
 ghost use Rattle.std.specs.Prelude.{◌≡◌, true};
 ghost use Rattle.std.specs.Option.{option_copied};
 ghost use Rattle.std.specs.Str.{bytes_eq};
-ghost use Rattle.tt_sql.specs.Built.{built as is_built};
+ghost use Rattle.tt_sql.specs.trees.Built.{built as is_built};
 ghost use Rattle.tt_sql.specs.declared.statement.Statement.{Statement as StatementTree};
 ghost use Rattle.tt_sql.specs.declared.statement.Statement.TheVariants as tree;
 ghost use Rattle.tt_plain.specs.NamedTables.{live_at};

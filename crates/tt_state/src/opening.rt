@@ -2,7 +2,7 @@
 
 ghost use Rattle.std.specs.Prelude.{◌≡◌, map, true, None, Ok, IfOk};
 ghost use Rattle.std.specs.Option.{option_map};
-ghost use Rattle.tt_sql.specs.Built.{built as is_built};
+ghost use Rattle.tt_sql.specs.trees.Built.{built as is_built};
 ghost use Rattle.tt_plain.specs.Refusals.{refusal_over};
 ghost use Rattle.tt_plain.specs.Statements.{is_started};
 ghost use Rattle.tt_plain.specs.Store.{current_rows as rows_of};

@@ -7,8 +7,8 @@ use Rattle.tt_lex.specs.Lexis.{is_quote}
 use Rattle.tt_value.specs.calendar.Calendar.{day_text, date_of, IsDay}
 use Rattle.tt_value.specs.calendar.Reading.{day_of}
 use Rattle.tt_value.proofs.calendar.Dates.{day_of-read}
-use Rattle.tt_sql.specs.FrontLaws.{false≢true}
-use Rattle.tt_sql.specs.TokenKinds.{DATE_TEXT, TIME_TEXT, UNIT_TEXT, NAME_TEXT, OTHER_TEXT, text_kind, unquoted, undoubled}
+use Rattle.tt_sql.proofs.grammar.Fronts.{false≢true}
+use Rattle.tt_sql.specs.grammar.TokenKinds.{DATE_TEXT, TIME_TEXT, UNIT_TEXT, NAME_TEXT, OTHER_TEXT, text_kind, unquoted, undoubled}
 
 abbrev no_quote : ℕ → Bool
 no_quote b = not (is_quote b)

@@ -1,9 +1,9 @@
 -- How a reader ends: with the answer of its last part, or with a fault of one of its parts.
 use Rattle.std.proofs.Common.{◌≡◌, ℕ, true, false, List, [], ◌++◌, Result, Ok, Err, sym, ap, ◌∙◌, subst, append-nil, append_assoc}
 use Rattle.std.specs.Result.{IsErrAnd}
-use Rattle.tt_sql.specs.Grammar.{Lexeme, Mark, Gram, Both, Either}
-use Rattle.tt_sql.specs.TokenKinds.{kind_count}
-use Rattle.tt_sql.specs.Parts.{one}
+use Rattle.tt_sql.specs.grammar.Grammar.{Lexeme, Mark, Gram, Both, Either}
+use Rattle.tt_sql.specs.grammar.TokenKinds.{kind_count}
+use Rattle.tt_sql.specs.grammar.Combinators.{one}
 use Rattle.tt_terminal.specs.declared.error.ParseError.{ParseError}
 use Rattle.tt_terminal.specs.declared.error.ParseError.TheVariants.{Syntax, Memory}
 use Rattle.tt_terminal.specs.declared.rest.Rest.{Rest}

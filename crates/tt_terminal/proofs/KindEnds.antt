@@ -1,6 +1,6 @@
 -- A token that stands in a text has another kind than the end of the text.
 use Rattle.std.proofs.Common.{◌≡◌, false, ◌==◌, refl}
-use Rattle.tt_sql.specs.TokenKinds.{kind_count}
+use Rattle.tt_sql.specs.grammar.TokenKinds.{kind_count}
 use Rattle.tt_terminal.specs.declared.kind.LexemeKind.{LexemeKind}
 use Rattle.tt_terminal.specs.declared.kind.LexemeKind.TheVariants as kinds
 use Rattle.tt_terminal.specs.KindNumbers.{kind_number}

@@ -2,9 +2,9 @@
 use Rattle.std.proofs.Common.{◌≡◌, ℕ, ℤ, List, [], ◌∷◌, sym, ap, ◌∙◌, arith, FitsSigned, w32, w64, to_z, of_z}
 use Rattle.std.proofs.lemmas.Int.{to_z-of_z, ints}
 use Rattle.tt_value.specs.calendar.Calendar.{day_text}
-use Rattle.tt_sql.specs.Grammar.{Lexeme, Mark, Said, Meant, Gram, Tok, Note}
-use Rattle.tt_sql.specs.TokenKinds.{MINUS, DATE, DATE_TEXT, SHORT_NUMBER, is_negative}
-use Rattle.tt_sql.specs.Parts.{one, as_negative, as_date, ◌▸◌}
+use Rattle.tt_sql.specs.grammar.Grammar.{Lexeme, Mark, Said, Meant, Gram, Tok, Note}
+use Rattle.tt_sql.specs.grammar.TokenKinds.{MINUS, DATE, DATE_TEXT, SHORT_NUMBER, is_negative}
+use Rattle.tt_sql.specs.grammar.Combinators.{one, as_negative, as_date, ◌▸◌}
 use Rattle.tt_terminal.specs.declared.rest.Rest.{Rest}
 use Rattle.tt_terminal.specs.Reading.{IsPlaced, IsNegative, IsDayText, Passes}
 use Rattle.tt_terminal.proofs.Steps.{passes_token, passes_note, is_of_one}

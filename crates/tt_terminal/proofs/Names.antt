@@ -3,10 +3,10 @@ use Rattle.std.proofs.Common.{◌≡◌, ℕ, ◌≤◌, true, List, ◌∷◌, 
 use Rattle.tt_lex.specs.declared.TokenKind.TheVariants as kinds
 use Rattle.tt_lex.specs.Lexis.{text_of}
 use Rattle.tt_value.specs.values.Texts.{IsPrintableAscii}
-use Rattle.tt_sql.specs.Grammar.{is_of, Lexeme, Note}
-use Rattle.tt_sql.specs.Parts.{name, as_text}
-use Rattle.tt_sql.specs.Marks.{name_marks}
-use Rattle.tt_sql.specs.TokenKinds.{NAME, is_name, upper, lexeme, lexeme_of}
+use Rattle.tt_sql.specs.grammar.Grammar.{is_of, Lexeme, Note}
+use Rattle.tt_sql.specs.grammar.Combinators.{name, as_text}
+use Rattle.tt_sql.specs.marks.Expressions.{name_marks}
+use Rattle.tt_sql.specs.grammar.TokenKinds.{NAME, is_name, upper, lexeme, lexeme_of}
 use Rattle.tt_value.specs.declared.name.Name.{Name}
 use Rattle.tt_terminal.specs.declared.rest.Lexed.{Lexed}
 use Rattle.tt_terminal.specs.declared.rest.Rest.{Rest}

@@ -8,12 +8,12 @@ use Rattle.std.proofs.Math.Nat.{mul-le-mul_right, pow-succ', pow-le-pow_right}
 use Rattle.tt_lex.specs.declared.TokenKind.{TokenKind}
 use Rattle.tt_lex.specs.declared.TokenKind.TheVariants as kinds
 use Rattle.tt_lex.specs.Lexis.{Piece, Word, Number, Quoted, Sign, Blank, LineComment, BlockComment, text_of, IsPiece, kind_of, spelling}
-use Rattle.tt_sql.specs.Grammar.{is_of, Meant, Lexeme, Note}
-use Rattle.tt_sql.specs.FrontLaws.{false≢true, and_join}
-use Rattle.tt_sql.specs.Parts.{number, short_number, as_number, as_negative}
-use Rattle.tt_sql.specs.Read.{negative}
-use Rattle.tt_sql.specs.Marks.{number_marks}
-use Rattle.tt_sql.specs.TokenKinds.{NAME, LONG_NAME, SHORT_NUMBER, NUMBER, LEAST_NUMBER, LARGE_NUMBER, DATE_TEXT, TIME_TEXT, UNIT_TEXT, NAME_TEXT, OTHER_TEXT, OPEN, UNEQUAL, is_number, is_negative, upper, word_kind, number_kind, text_kind, sign_kind, lexeme, unquoted, place_in, reserved_words, other_words}
+use Rattle.tt_sql.specs.grammar.Grammar.{is_of, Meant, Lexeme, Note}
+use Rattle.tt_sql.proofs.grammar.Fronts.{false≢true, and_join}
+use Rattle.tt_sql.specs.grammar.Combinators.{number, short_number, as_number, as_negative}
+use Rattle.tt_sql.specs.machine.Factored.{negative}
+use Rattle.tt_sql.specs.marks.Expressions.{number_marks}
+use Rattle.tt_sql.specs.grammar.TokenKinds.{NAME, LONG_NAME, SHORT_NUMBER, NUMBER, LEAST_NUMBER, LARGE_NUMBER, DATE_TEXT, TIME_TEXT, UNIT_TEXT, NAME_TEXT, OTHER_TEXT, OPEN, UNEQUAL, is_number, is_negative, upper, word_kind, number_kind, text_kind, sign_kind, lexeme, unquoted, place_in, reserved_words, other_words}
 use Rattle.tt_value.specs.calendar.Reading.{digits_value as number_of}
 use Rattle.tt_value.specs.declared.name.Number.{Number as Value}
 use Rattle.tt_terminal.specs.declared.rest.Lexed.{Lexed}

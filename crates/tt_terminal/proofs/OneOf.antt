@@ -1,6 +1,6 @@
 -- Words of which one has to stand there.
 use Rattle.std.proofs.Common.{◌≡◌, ℕ, Bool, true, false, ◌||◌, ◌==◌, [], Option, Some, None, MatchOption, refl, eq-eqb}
-use Rattle.tt_sql.specs.Grammar.{Tok, is_of}
+use Rattle.tt_sql.specs.grammar.Grammar.{Tok, is_of}
 use Rattle.tt_terminal.specs.declared.rest.Rest.{Rest}
 use Rattle.tt_terminal.specs.Reading.{Passes, IsWord, first_kind}
 use Rattle.tt_terminal.proofs.Steps.{passes_one, word_kind_is}

@@ -12,10 +12,10 @@ use Rattle.tt_lex.specs.declared.TokenKind.{TokenKind}
 use Rattle.tt_lex.specs.declared.TokenKind.TheVariants as kinds
 use Rattle.tt_lex.specs.Lexis.{Piece, Word, Number, Quoted, Sign, Blank, LineComment, BlockComment, text_of, is_quote, is_text_byte, doubled, IsPiece, IsSpelled, kind_of, spelling}
 use Rattle.tt_value.specs.values.Texts.{IsText, is_control}
-use Rattle.tt_sql.specs.Grammar.{is_of, Lexeme, Note}
-use Rattle.tt_sql.specs.Parts.{quoted, as_text}
-use Rattle.tt_sql.specs.Marks.{quoted_marks}
-use Rattle.tt_sql.specs.TokenKinds.{NAME, LONG_NAME, SHORT_NUMBER, NUMBER, LEAST_NUMBER, LARGE_NUMBER, OTHER_TEXT, OPEN, UNEQUAL, is_quoted, upper, word_kind, number_kind, sign_kind, text_kind, lexeme, unquoted, undoubled, place_in, reserved_words, other_words}
+use Rattle.tt_sql.specs.grammar.Grammar.{is_of, Lexeme, Note}
+use Rattle.tt_sql.specs.grammar.Combinators.{quoted, as_text}
+use Rattle.tt_sql.specs.marks.Expressions.{quoted_marks}
+use Rattle.tt_sql.specs.grammar.TokenKinds.{NAME, LONG_NAME, SHORT_NUMBER, NUMBER, LEAST_NUMBER, LARGE_NUMBER, OTHER_TEXT, OPEN, UNEQUAL, is_quoted, upper, word_kind, number_kind, sign_kind, text_kind, lexeme, unquoted, undoubled, place_in, reserved_words, other_words}
 use Rattle.tt_value.specs.declared.name.Quoted.{Quoted as Value}
 use Rattle.tt_terminal.specs.declared.rest.Lexed.{Lexed}
 use Rattle.tt_terminal.specs.declared.rest.Rest.{Rest}

@@ -1,11 +1,11 @@
 -- How the machine goes on at each part of a grammar, as equations of its runs.
 use Rattle.std.proofs.Common.{◌≡◌, ℕ, Bool, true, false, not, ◌&&◌, ◌||◌, ◌⊎◌, inl, inr, List, [], ◌∷◌, ◌++◌, Option, Some, None, Result, Ok, Err, if◌then◌else◌, refl, sym, ap, ◌∙◌, append_assoc, true≢false}
 use Rattle.std.proofs.lemmas.Bool.{and_parts, or_parts}
-use Rattle.tt_sql.specs.Grammar.{Lexeme, Mark, Way, Rule, Gram, Tok, Deep, Note, Both, Either, Many, Again, is_of, latest_place}
-use Rattle.tt_sql.specs.Machine.{Entry, Into, Pass, Stuck, enter, enter_within, enter_part, enter_both, enter_either, enter_many, front_marks, Step, Next, Halt, front_step, step_from, step, both_marks, close_part, close, closed, with_marks, go_on, run}
-use Rattle.tt_sql.specs.Checks.{empty, guarded}
-use Rattle.tt_sql.specs.FrontLaws.{false≢true, or_split, implied}
-use Rattle.tt_sql.specs.TokenKinds.{kind_count}
+use Rattle.tt_sql.specs.grammar.Grammar.{Lexeme, Mark, Way, Rule, Gram, Tok, Deep, Note, Both, Either, Many, Again, is_of, latest_place}
+use Rattle.tt_sql.specs.machine.Machine.{Entry, Into, Pass, Stuck, enter, enter_within, enter_part, enter_both, enter_either, enter_many, front_marks, Step, Next, Halt, front_step, step_from, step, both_marks, close_part, close, closed, with_marks, go_on, run}
+use Rattle.tt_sql.proofs.machine.Decisions.{empty, guarded}
+use Rattle.tt_sql.proofs.grammar.Fronts.{false≢true, or_split, implied}
+use Rattle.tt_sql.specs.grammar.TokenKinds.{kind_count}
 use Rattle.tt_terminal.specs.Fronts.{solid, begins, front_kind, front_place}
 
 -- ---- entries

@@ -1,11 +1,10 @@
 -- The same steps for what is left of a text.
 use Rattle.std.proofs.Common.{◌≡◌, ℕ, ◌<◌, Bool, true, false, ◌==◌, List, [], ◌∷◌, ◌++◌, length, map, All, Result, Ok, Err, refl, sym, ap, ◌∙◌, subst, arith, eq-eqb}
-use Rattle.tt_sql.specs.Grammar.{Lexeme, Mark, Way, At, Rule, Gram, Tok, Deep, Note, Both, Either, Many, Again, is_of}
-use Rattle.tt_sql.specs.Read.{read_rule}
-use Rattle.tt_sql.specs.TokenKinds.{kind_count}
-use Rattle.tt_sql.specs.Parts.{one, way, placed, as_place}
-use Rattle.tt_sql.specs.Checks.{nowhere}
-use Rattle.tt_sql.specs.Marks.{repeated}
+use Rattle.tt_sql.specs.grammar.Grammar.{Lexeme, Mark, Way, At, Rule, Gram, Tok, Deep, Note, Both, Either, Many, Again, is_of, nowhere}
+use Rattle.tt_sql.specs.machine.Factored.{read_rule}
+use Rattle.tt_sql.specs.grammar.TokenKinds.{kind_count}
+use Rattle.tt_sql.specs.grammar.Combinators.{one, way, placed, as_place}
+use Rattle.tt_sql.specs.marks.Expressions.{repeated}
 use Rattle.tt_terminal.specs.declared.rest.Lexed.{Lexed}
 use Rattle.tt_terminal.specs.declared.rest.Rest.{Rest}
 use Rattle.tt_terminal.specs.declared.error.ParseError.{ParseError}

@@ -1,11 +1,11 @@
 -- Steps by which a reader of a grammar is put together from readers of its parts.
 use Rattle.std.proofs.Common.{◌≡◌, ℕ, Bool, true, false, List, [], ◌∷◌, ◌++◌, refl, sym, ap, ◌∙◌, true≢false}
-use Rattle.tt_sql.specs.Grammar.{Lexeme, Mark, Way, Rule, Gram, Tok, Deep, Note, Both, Either, Many, Again, is_of}
-use Rattle.tt_sql.specs.Machine.{run, with_marks}
-use Rattle.tt_sql.specs.Read.{read_rule}
-use Rattle.tt_sql.specs.TokenKinds.{kind_count}
-use Rattle.tt_sql.specs.TableLaws.{table}
-use Rattle.tt_sql.specs.Parts.{way}
+use Rattle.tt_sql.specs.grammar.Grammar.{Lexeme, Mark, Way, Rule, Gram, Tok, Deep, Note, Both, Either, Many, Again, is_of}
+use Rattle.tt_sql.specs.machine.Machine.{run, with_marks}
+use Rattle.tt_sql.specs.machine.Factored.{read_rule}
+use Rattle.tt_sql.specs.grammar.TokenKinds.{kind_count}
+use Rattle.tt_sql.proofs.machine.Table.{table}
+use Rattle.tt_sql.specs.grammar.Combinators.{way}
 use Rattle.tt_terminal.specs.Reading.{Goes, Halts}
 use Rattle.tt_terminal.specs.Fronts.{begins, solid, front_kind, front_place}
 use Rattle.tt_terminal.proofs.Running.{with_nothing, with_more, run_both, run_note, run_token, run_fails, run_left, run_right, run_more, run_enough, run_again, run_deep}

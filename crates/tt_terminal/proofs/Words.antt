@@ -12,9 +12,9 @@ use Rattle.tt_lex.specs.declared.TokenKind.{TokenKind}
 use Rattle.tt_lex.specs.declared.TokenKind.TheVariants as kinds
 use Rattle.tt_lex.specs.Lexis.{Piece, Word, Number, Quoted, Sign, Blank, LineComment, BlockComment, is_word_start, is_word_part, text_of, IsPiece, IsSpelled, kind_of, spelling}
 use Rattle.tt_value.specs.values.Texts.{IsPrintableAscii}
-use Rattle.tt_sql.specs.Grammar.{is_of}
-use Rattle.tt_sql.specs.FrontLaws.{false≢true, and_join, or_first}
-use Rattle.tt_sql.specs.TokenKinds.{NAME, LONG_NAME, SHORT_NUMBER, NUMBER, LEAST_NUMBER, LARGE_NUMBER, DATE_TEXT, TIME_TEXT, UNIT_TEXT, NAME_TEXT, OTHER_TEXT, OPEN, UNEQUAL, is_name, upper, word_kind, number_kind, text_kind, sign_kind, unquoted, lexeme, place_in, reserved_words, other_words}
+use Rattle.tt_sql.specs.grammar.Grammar.{is_of}
+use Rattle.tt_sql.proofs.grammar.Fronts.{false≢true, and_join, or_first}
+use Rattle.tt_sql.specs.grammar.TokenKinds.{NAME, LONG_NAME, SHORT_NUMBER, NUMBER, LEAST_NUMBER, LARGE_NUMBER, DATE_TEXT, TIME_TEXT, UNIT_TEXT, NAME_TEXT, OTHER_TEXT, OPEN, UNEQUAL, is_name, upper, word_kind, number_kind, text_kind, sign_kind, unquoted, lexeme, place_in, reserved_words, other_words}
 
 -- ---- only words are names
 

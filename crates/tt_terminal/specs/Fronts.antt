@@ -1,7 +1,7 @@
 -- What stands at the front: of tokens, and of parts of a grammar.
 use Rattle.std.specs.Prelude.{ℕ, Bool, true, false, not, ◌&&◌, ◌||◌, List, [], ◌∷◌}
-use Rattle.tt_sql.specs.Grammar.{Lexeme, Gram, Tok, Deep, Note, Both, Either, Many, Again, is_of}
-use Rattle.tt_sql.specs.TokenKinds.{kind_count}
+use Rattle.tt_sql.specs.grammar.Grammar.{Lexeme, Gram, Tok, Deep, Note, Both, Either, Many, Again, is_of}
+use Rattle.tt_sql.specs.grammar.TokenKinds.{kind_count}
 
 -- a part takes at least one token
 abbrev pub solid : Gram → Bool

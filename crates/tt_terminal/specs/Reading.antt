@@ -7,11 +7,11 @@ use Rattle.tt_value.specs.declared.name.Name.{Name}
 use Rattle.tt_value.specs.declared.name.Number.{Number}
 use Rattle.tt_value.specs.declared.name.Quoted.{Quoted as QuotedText}
 use Rattle.tt_value.specs.calendar.Calendar.{day_text, IsDay}
-use Rattle.tt_sql.specs.Grammar.{Lexeme, Mark, Way, Gram, Many, is_of}
-use Rattle.tt_sql.specs.Machine.{run, with_marks}
-use Rattle.tt_sql.specs.TokenKinds.{lexeme_of, unquoted, NAME, SHORT_NUMBER, OTHER_TEXT, DATE_TEXT, is_name, is_quoted, is_number, is_negative}
+use Rattle.tt_sql.specs.grammar.Grammar.{Lexeme, Mark, Way, Gram, Many, is_of}
+use Rattle.tt_sql.specs.machine.Machine.{run, with_marks}
+use Rattle.tt_sql.specs.grammar.TokenKinds.{lexeme_of, unquoted, NAME, SHORT_NUMBER, OTHER_TEXT, DATE_TEXT, is_name, is_quoted, is_number, is_negative}
 use Rattle.tt_value.specs.calendar.Reading.{digits_value as number_of}
-use Rattle.tt_sql.specs.Read.{read_rule}
+use Rattle.tt_sql.specs.machine.Factored.{read_rule}
 use Rattle.tt_terminal.specs.declared.error.ParseError.{ParseError}
 use Rattle.tt_terminal.specs.declared.error.ParseError.TheVariants.{Syntax, Memory}
 use Rattle.tt_terminal.specs.declared.rest.Lexed.{Lexed}

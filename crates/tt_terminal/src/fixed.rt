@@ -1,10 +1,10 @@
 //! Readers of fixed words and signs.
 
 ghost use Rattle.std.specs.Prelude.{◌≡◌, ◌||◌, ◌==◌, true, false, [], ◌∷◌, MatchOption};
-ghost use Rattle.tt_sql.specs.Grammar.{is_of, Tok, At};
-ghost use Rattle.tt_sql.specs.Parts.{one, placed, maybe, ◌▸◌};
-ghost use Rattle.tt_sql.specs.Written.{spare};
-ghost use Rattle.tt_sql.specs.Marks.{flag_marks};
+ghost use Rattle.tt_sql.specs.grammar.Grammar.{is_of, Tok, At};
+ghost use Rattle.tt_sql.specs.grammar.Combinators.{one, placed, maybe, ◌▸◌};
+ghost use Rattle.tt_sql.specs.grammar.Written.{spare};
+ghost use Rattle.tt_sql.specs.marks.Expressions.{flag_marks};
 ghost use Rattle.tt_terminal.specs.KindNumbers.{kind_number};
 ghost use Rattle.tt_terminal.specs.Reading.{IsKnown, Reads, Passes, first_kind};
 

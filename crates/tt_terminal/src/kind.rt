@@ -1,9 +1,9 @@
 //! The kinds of tokens that the grammar knows.
 
 ghost use Rattle.std.specs.Prelude.{◌≡◌};
-ghost use Rattle.tt_sql.specs.Grammar.{is_of};
-ghost use Rattle.tt_sql.specs.TokenKinds.{NAME, SHORT_NUMBER, OTHER_TEXT, is_name as name_test, is_number as number_test, is_negative as negative_test, is_quoted as quoted_test};
-ghost use Rattle.tt_sql.specs.Written.{begins_other};
+ghost use Rattle.tt_sql.specs.grammar.Grammar.{is_of};
+ghost use Rattle.tt_sql.specs.grammar.TokenKinds.{NAME, SHORT_NUMBER, OTHER_TEXT, is_name as name_test, is_number as number_test, is_negative as negative_test, is_quoted as quoted_test};
+ghost use Rattle.tt_sql.specs.grammar.Written.{begins_other};
 ghost use Rattle.tt_terminal.specs.KindNumbers.{kind_number};
 
 /// A kind of token. Reserved words come first, then the words that may be names too, and then what is no

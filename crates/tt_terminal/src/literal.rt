@@ -3,9 +3,9 @@
 ghost use Rattle.std.specs.Prelude.{◌≡◌, ◌<◌, ◌^◌, ◌++◌, [], ◌∷◌, IfOk};
 ghost use Rattle.tt_value.specs.calendar.Calendar.{day_text, IsDay};
 ghost use Rattle.tt_value.specs.values.RowText.{IsPrintableValue};
-ghost use Rattle.tt_sql.specs.Grammar.{Way, At, Meant, Said};
-ghost use Rattle.tt_sql.specs.Marks.{literal_marks, number_marks, quoted_marks};
-ghost use Rattle.tt_sql.specs.Written.{literal as literal_part};
+ghost use Rattle.tt_sql.specs.grammar.Grammar.{Way, At, Meant, Said};
+ghost use Rattle.tt_sql.specs.marks.Expressions.{literal_marks, number_marks, quoted_marks};
+ghost use Rattle.tt_sql.specs.grammar.Written.{literal as literal_part};
 ghost use Rattle.tt_terminal.specs.Reading.{IsKnown, Reads};
 
 use crate::error::ParseError;

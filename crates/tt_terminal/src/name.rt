@@ -5,12 +5,12 @@ ghost use Rattle.std.specs.List.{list_all};
 ghost use Rattle.std.specs.Char.{is_ascii_digit};
 ghost use Rattle.tt_lex.specs.Lexis.{text_of};
 ghost use Rattle.tt_value.specs.values.Texts.{IsPrintableAscii};
-ghost use Rattle.tt_sql.specs.Grammar.{is_of};
-ghost use Rattle.tt_sql.specs.TokenKinds.{NAME, SHORT_NUMBER, is_name, is_number, is_negative, upper};
+ghost use Rattle.tt_sql.specs.grammar.Grammar.{is_of};
+ghost use Rattle.tt_sql.specs.grammar.TokenKinds.{NAME, SHORT_NUMBER, is_name, is_number, is_negative, upper};
 ghost use Rattle.tt_value.specs.calendar.Reading.{digits_value as number_meant};
-ghost use Rattle.tt_sql.specs.Parts.{name as name_part, number as number_part, short_number as short_number_part};
-ghost use Rattle.tt_sql.specs.QueryGiven.{IsAlone, IsAloneTable};
-ghost use Rattle.tt_sql.specs.Marks.{name_marks, column_marks, table_marks, number_marks};
+ghost use Rattle.tt_sql.specs.grammar.Combinators.{name as name_part, number as number_part, short_number as short_number_part};
+ghost use Rattle.tt_sql.specs.determined.Queries.{IsAlone, IsAloneTable};
+ghost use Rattle.tt_sql.specs.marks.Expressions.{name_marks, column_marks, table_marks, number_marks};
 ghost use Rattle.tt_terminal.specs.Reading.{IsKnown, IsName, IsNumber, IsNegative, Reads, first_kind};
 
 use crate::error::ParseError;

@@ -4,10 +4,10 @@ ghost use Rattle.std.specs.Prelude.{◌≡◌, ◌≤◌, ◌==◌, false, lengt
 ghost use Rattle.std.specs.Str.{IsUtf8};
 ghost use Rattle.tt_value.specs.values.Texts.{IsText};
 ghost use Rattle.tt_value.specs.calendar.Calendar.{day_text, IsDay};
-ghost use Rattle.tt_sql.specs.Grammar.{is_of};
-ghost use Rattle.tt_sql.specs.TokenKinds.{OTHER_TEXT, DATE_TEXT, is_quoted, text_kind, unquoted as unquoted_bytes, undoubled as undoubled_bytes};
-ghost use Rattle.tt_sql.specs.Parts.{quoted as quoted_part};
-ghost use Rattle.tt_sql.specs.Marks.{quoted_marks};
+ghost use Rattle.tt_sql.specs.grammar.Grammar.{is_of};
+ghost use Rattle.tt_sql.specs.grammar.TokenKinds.{OTHER_TEXT, DATE_TEXT, is_quoted, text_kind, unquoted as unquoted_bytes, undoubled as undoubled_bytes};
+ghost use Rattle.tt_sql.specs.grammar.Combinators.{quoted as quoted_part};
+ghost use Rattle.tt_sql.specs.marks.Expressions.{quoted_marks};
 ghost use Rattle.tt_terminal.specs.Reading.{IsKnown, IsQuoted, IsDayText, Reads, first_kind};
 
 use crate::error::ParseError;

@@ -1,8 +1,8 @@
 //! What is left of the tokens of a text.
 
 ghost use Rattle.std.specs.Prelude.{◌≡◌, ◌<◌, ◌==◌, false, MatchOption};
-ghost use Rattle.tt_sql.specs.TokenKinds.{kind_count};
-ghost use Rattle.tt_sql.specs.Written.{begins_other};
+ghost use Rattle.tt_sql.specs.grammar.TokenKinds.{kind_count};
+ghost use Rattle.tt_sql.specs.grammar.Written.{begins_other};
 ghost use Rattle.tt_terminal.specs.declared.error.ParseError.TheVariants.{Syntax};
 ghost use Rattle.tt_terminal.specs.KindNumbers.{kind_number};
 ghost use Rattle.tt_terminal.specs.Reading.{Takes, IsWord, IsPlaced, IsKnown, first_kind, first_place};

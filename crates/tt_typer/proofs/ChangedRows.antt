@@ -31,9 +31,9 @@ use Rattle.tt_sql.specs.declared.change.Tuple.{Tuple}
 use Rattle.tt_sql.specs.declared.change.Update.{Update}
 use Rattle.tt_sql.specs.declared.change.Set.{Set}
 use Rattle.tt_sql.specs.declared.statement.Statement.TheVariants as statement
-use Rattle.tt_sql.specs.Scopes.{query_scope, target_scope}
-use Rattle.tt_sql.specs.QueryMeaning.{all_some, answer_of}
-use Rattle.tt_sql.specs.ChangeMeaning.{Changes, Staged, Records, BadRecord, NullInRecord, for_column, in_order, stored_row, tuple_values, inserted_values, adds, insert_change, set_value, updated_row, replaces, update_change, copy_change, change_of}
+use Rattle.tt_sql.specs.meaning.Scopes.{query_scope, target_scope}
+use Rattle.tt_sql.specs.meaning.Queries.{all_some, answer_of}
+use Rattle.tt_sql.specs.meaning.Changes.{Changes, Staged, Records, BadRecord, NullInRecord, for_column, in_order, stored_row, tuple_values, inserted_values, adds, insert_change, set_value, updated_row, replaces, update_change, copy_change, change_of}
 use Rattle.tt_plain.specs.Places.{each, each_at, if_there}
 use Rattle.tt_plain.specs.Kinds.{fits, unless}
 use Rattle.tt_plain.specs.Columns.{column_named}

@@ -15,7 +15,7 @@ use Rattle.tt_sql.specs.declared.query.Selection.{Selection}
 use Rattle.tt_sql.specs.declared.query.Selection.TheVariants as selection
 use Rattle.tt_sql.specs.declared.query.Item.{Item}
 use Rattle.tt_sql.specs.declared.query.Item.TheVariants as item
-use Rattle.tt_sql.specs.QueryMeaning.{is_aggregate, has_aggregate, group_key, each_once, grouped, groups_of}
+use Rattle.tt_sql.specs.meaning.Queries.{is_aggregate, has_aggregate, group_key, each_once, grouped, groups_of}
 use Rattle.tt_plain.specs.Places.{each}
 use Rattle.tt_plain.specs.TypeMismatches.{is_grouped, ungrouped_item, ungrouped_selection}
 use Rattle.tt_plain.specs.QueryKinds.{IsQueryTyped, reads_first_row}

@@ -7,7 +7,7 @@ use Rattle.std.proofs.lemmas.Bool.{or_parts, ltb-false}
 use Rattle.std.proofs.lemmas.Option.{same_Some}
 use Rattle.std.proofs.lemmas.List.Sums.{fails_before_first}
 use Rattle.std.proofs.lemmas.List.FromFn.{length-range_with_len, get_or-range_with_len}
-use Rattle.tt_sql.specs.QueryMeaning.{all_some}
+use Rattle.tt_sql.specs.meaning.Queries.{all_some}
 use Rattle.tt_plain.specs.Places.{each_at}
 use Rattle.tt_typer.proofs.KindLaws.{nil_parts}
 

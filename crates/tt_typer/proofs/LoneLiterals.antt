@@ -14,7 +14,7 @@ use Rattle.tt_value.specs.declared.expression.Factor.{Factor}
 use Rattle.tt_value.specs.declared.expression.Factor.TheVariants as factor
 use Rattle.tt_value.specs.trees.Scope.{Scope}
 use Rattle.tt_value.specs.trees.Expressions.{on_numbers, then_both, add_signed, factor_value, value_of}
-use Rattle.tt_sql.specs.TreesLaws.{by_factor}
+use Rattle.tt_sql.proofs.machine.ExpressionTrees.{by_factor}
 use Rattle.tt_plain.specs.Expressions.{literal_of, lone_literal}
 use Rattle.tt_typer.proofs.ValueFolds.{of_term, of_factor, of_expr_out, of_term_out, of_literal}
 

@@ -19,7 +19,7 @@ use Rattle.tt_value.specs.declared.value.Schema.{Schema}
 use Rattle.tt_value.specs.declared.name.TableName.{TableName}
 use Rattle.tt_value.specs.declared.name.ColumnName.{ColumnName}
 use Rattle.tt_value.specs.trees.Scope.{column_place}
-use Rattle.tt_sql.specs.Scopes.{names_table, place_after, only_place, target_scope, scope_of, query_scope, query_tables}
+use Rattle.tt_sql.specs.meaning.Scopes.{names_table, place_after, only_place, target_scope, scope_of, query_scope, query_tables}
 
 only_after : (p : Option ℕ) → only_place (place_after 0 p ++ []) ≡ p
 only_after None = refl

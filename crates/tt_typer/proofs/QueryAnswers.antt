@@ -30,7 +30,7 @@ use Rattle.tt_sql.specs.declared.query.Item.TheVariants as item
 use Rattle.tt_sql.specs.declared.query.Key.{Key}
 use Rattle.tt_sql.specs.declared.query.KeyColumn.{KeyColumn}
 use Rattle.tt_sql.specs.declared.query.KeyColumn.TheVariants as key
-use Rattle.tt_sql.specs.QueryMeaning.{all_some, has_aggregate, group_key, each_once, grouped, column_values, int_of, sum_of, lesser, greater, best_of, first_value, item_value, selected, is_item_of, key_place, answer_cmp, insert_by, sorted_by, limited, arranged, taken_rows, selected_rows, answer_of}
+use Rattle.tt_sql.specs.meaning.Queries.{all_some, has_aggregate, group_key, each_once, grouped, column_values, int_of, sum_of, lesser, greater, best_of, first_value, item_value, selected, is_item_of, key_place, answer_cmp, insert_by, sorted_by, limited, arranged, taken_rows, selected_rows, answer_of}
 use Rattle.tt_plain.specs.Places.{each, if_there, column_begin}
 use Rattle.tt_plain.specs.Kinds.{fits}
 use Rattle.tt_plain.specs.Expressions.{part_of, lone_literal}

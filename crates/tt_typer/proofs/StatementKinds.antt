@@ -30,9 +30,9 @@ use Rattle.tt_sql.specs.declared.change.Update.{Update}
 use Rattle.tt_sql.specs.declared.change.Delete.{Delete}
 use Rattle.tt_sql.specs.declared.change.Set.{Set}
 use Rattle.tt_sql.specs.declared.statement.Statement.TheVariants as statement
-use Rattle.tt_sql.specs.Scopes.{query_scope, target_scope}
-use Rattle.tt_sql.specs.QueryMeaning.{answer_of, column_values, groups_of}
-use Rattle.tt_sql.specs.ChangeMeaning.{inserted_values, in_order}
+use Rattle.tt_sql.specs.meaning.Scopes.{query_scope, target_scope}
+use Rattle.tt_sql.specs.meaning.Queries.{answer_of, column_values, groups_of}
+use Rattle.tt_sql.specs.meaning.Changes.{inserted_values, in_order}
 use Rattle.tt_plain.specs.Places.{each, if_there, column_begin}
 use Rattle.tt_plain.specs.Kinds.{fits, unless}
 use Rattle.tt_plain.specs.Columns.{column_named}

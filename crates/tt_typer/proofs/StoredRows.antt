@@ -19,7 +19,7 @@ use Rattle.tt_value.specs.declared.name.Name.{Name}
 use Rattle.tt_value.specs.declared.name.Literal.{Literal}
 use Rattle.tt_value.specs.trees.Scope.{column_place, kind_of, beside, value_or_null}
 use Rattle.tt_sql.specs.declared.change.Tuple.{Tuple}
-use Rattle.tt_sql.specs.ChangeMeaning.{Changes, is_missing, is_missing_at, first_missing, stores, for_column, given_value, in_order, tuple_values}
+use Rattle.tt_sql.specs.meaning.Changes.{Changes, is_missing, is_missing_at, first_missing, stores, for_column, given_value, in_order, tuple_values}
 use Rattle.tt_plain.specs.Kinds.{fits, is_same_kind, literal_fits}
 use Rattle.tt_plain.specs.Columns.{column_named, target_column}
 use Rattle.tt_plain.specs.WrongCounts.{width}

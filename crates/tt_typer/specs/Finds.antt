@@ -3,7 +3,7 @@ use Rattle.std.specs.Prelude.{ℕ, List, [], ◌++◌, Option}
 use Rattle.tt_value.specs.declared.value.Schema.{Schema}
 use Rattle.tt_value.specs.declared.name.Name.{Name}
 use Rattle.tt_value.specs.trees.Scope.{Scope}
-use Rattle.tt_sql.specs.Scopes.{query_scope, target_scope}
+use Rattle.tt_sql.specs.meaning.Scopes.{query_scope, target_scope}
 use Rattle.tt_sql.specs.declared.query.Query.{Query}
 use Rattle.tt_sql.specs.declared.change.Dml.{Dml}
 use Rattle.tt_sql.specs.declared.change.Tuple.{Tuple}

@@ -1,7 +1,7 @@
 //! What is found in each kind of statement.
 
 ghost use Rattle.std.specs.Prelude.{◌≡◌, ◌<◌, length, []};
-ghost use Rattle.tt_sql.specs.Scopes.{query_tables};
+ghost use Rattle.tt_sql.specs.meaning.Scopes.{query_tables};
 ghost use Rattle.tt_plain.specs.Places.{table_begin as begin_of};
 ghost use Rattle.tt_plain.specs.Tables.{tables_of, dml_tables, schema_at, ReadsOneTable, IsOverOneTable};
 ghost use Rattle.tt_typer.specs.TableScopes.{scope_in};

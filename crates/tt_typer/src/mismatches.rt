@@ -5,7 +5,7 @@ ghost use Rattle.tt_typer.specs.TableScopes.{scope_in};
 ghost use Rattle.tt_value.specs.trees.Predicates.{operand_kind as kind_of_operand};
 ghost use Rattle.tt_plain.specs.Places.{each, if_there, leftmost};
 ghost use Rattle.std.specs.List.{list_any};
-ghost use Rattle.tt_sql.specs.QueryMeaning.{is_aggregate as is_aggregate_of, has_aggregate as has_aggregate_of};
+ghost use Rattle.tt_sql.specs.meaning.Queries.{is_aggregate as is_aggregate_of, has_aggregate as has_aggregate_of};
 ghost use Rattle.tt_plain.specs.TypeMismatches as spec;
 
 use crate::kinds::{fits, is_date, kind_of, misfit_literal, unless};

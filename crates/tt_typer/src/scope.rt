@@ -3,8 +3,8 @@
 ghost use Rattle.std.specs.Prelude.{◌≡◌, length};
 ghost use Rattle.std.specs.Option.{option_copied};
 ghost use Rattle.tt_value.specs.trees.Scope as spec;
-ghost use Rattle.tt_sql.specs.QueryMeaning.{plain_column as column_alone, is_item_of as is_item, same_place as is_same_place};
-ghost use Rattle.tt_sql.specs.Scopes.{names_table as is_for};
+ghost use Rattle.tt_sql.specs.meaning.Queries.{plain_column as column_alone, is_item_of as is_item, same_place as is_same_place};
+ghost use Rattle.tt_sql.specs.meaning.Scopes.{names_table as is_for};
 ghost use Rattle.tt_typer.specs.TableScopes.{scope_in};
 
 use crate::columns::{column_named, column_place};

@@ -3,7 +3,7 @@
 ghost use Rattle.std.specs.Prelude.{◌≡◌};
 ghost use Rattle.std.specs.List.{list_any};
 ghost use Rattle.tt_typer.specs.TableScopes.{scope_in};
-ghost use Rattle.tt_sql.specs.QueryMeaning.{is_item_of as is_item_at};
+ghost use Rattle.tt_sql.specs.meaning.Queries.{is_item_of as is_item_at};
 ghost use Rattle.tt_plain.specs.Places.{each, if_there, leftmost};
 ghost use Rattle.tt_plain.specs.UnknownColumns as spec;
 

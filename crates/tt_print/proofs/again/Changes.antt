@@ -10,18 +10,18 @@ use Rattle.tt_sql.specs.declared.change.InsertSource.TheVariants as source
 use Rattle.tt_sql.specs.declared.change.Set.{Set}
 use Rattle.tt_sql.specs.declared.change.Tuple.{Tuple}
 use Rattle.tt_sql.specs.declared.change.Update.{Update}
-use Rattle.tt_sql.specs.QueryGiven.{IsListed, WhenThere}
-use Rattle.tt_sql.specs.Parts.{◌▸◌, ◌∣◌, one, way, name, brackets, listed}
-use Rattle.tt_sql.specs.TokenKinds.{VALUES, WHERE, word_kind, sign_kind}
+use Rattle.tt_sql.specs.trees.Lists.{IsListed, WhenThere}
+use Rattle.tt_sql.specs.grammar.Combinators.{◌▸◌, ◌∣◌, one, way, name, brackets, listed}
+use Rattle.tt_sql.specs.grammar.TokenKinds.{VALUES, WHERE, word_kind, sign_kind}
 use Rattle.tt_print.specs.text.Words.{name_words, literal_words}
 use Rattle.tt_print.specs.text.Predicates.{filter_words}
 use Rattle.tt_print.specs.text.Changes.{column_list_words, tuple_words, insert_source_words, insert_words, set_words, update_words, delete_words, copy_words}
-use Rattle.tt_sql.specs.Marks.{name_marks, literal_marks, predicate_marks}
-use Rattle.tt_sql.specs.ChangeMarks.{names_marks, tuple_marks, insert_source_marks, insert_marks, set_marks, update_marks, delete_marks, copy_marks}
-use Rattle.tt_sql.specs.Written.{literal, pred, query, tuple, insert, set, update, delete, copy}
+use Rattle.tt_sql.specs.marks.Expressions.{name_marks, literal_marks, predicate_marks}
+use Rattle.tt_sql.specs.marks.Changes.{names_marks, tuple_marks, insert_source_marks, insert_marks, set_marks, update_marks, delete_marks, copy_marks}
+use Rattle.tt_sql.specs.grammar.Written.{literal, pred, query, tuple, insert, set, update, delete, copy}
 use Rattle.tt_print.specs.again.Spelling.{IsReadAs}
-use Rattle.tt_sql.specs.PrintedTrees.{IsWrittenName, IsWrittenTable, IsWrittenQuoted, IsWrittenLiteral, IsWrittenPredicate}
-use Rattle.tt_sql.specs.PrintedStatements.{IsWrittenTuple, IsWrittenInsertSource, IsWrittenSet}
+use Rattle.tt_sql.specs.trees.Expressions.{IsWrittenName, IsWrittenTable, IsWrittenQuoted, IsWrittenLiteral, IsWrittenPredicate}
+use Rattle.tt_sql.specs.trees.Statements.{IsWrittenTuple, IsWrittenInsertSource, IsWrittenSet}
 use Rattle.tt_print.proofs.again.Parts.{in_order, as_first, as_second, word_first, word_last, with_way, word_placed, in_list, when_there, in_brackets}
 use Rattle.tt_print.proofs.again.Expressions.{name_read, table_read, literal_read, quoted_read, expr_read}
 use Rattle.tt_print.proofs.again.Predicates.{filter_read}

@@ -17,18 +17,17 @@ use Rattle.tt_value.specs.declared.expression.Addend.{Addend, out-Addend, fold_o
 use Rattle.tt_value.specs.declared.expression.Factor.{Factor, out-Factor, roll-Factor, roll-out-Factor}
 use Rattle.tt_value.specs.declared.expression.Factor.TheOpen.{Factor-F}
 use Rattle.tt_value.specs.declared.expression.Factor.TheFolds.{fold-roll-Factor}
-use Rattle.tt_sql.specs.Grammar.{Mark, Way, At, Said, Meant}
-use Rattle.tt_sql.specs.Parts.{◌▸◌, one, name, number, quoted}
-use Rattle.tt_sql.specs.TokenKinds.{STAR, sign_kind}
+use Rattle.tt_sql.specs.grammar.Grammar.{Mark, Way, At, Said, Meant}
+use Rattle.tt_sql.specs.grammar.Combinators.{◌▸◌, one, name, number, quoted}
+use Rattle.tt_sql.specs.grammar.TokenKinds.{STAR, sign_kind}
 use Rattle.tt_print.specs.text.Words.{Words, word_if, name_words, column_name_words, table_name_words, quoted_words, number_words, literal_words, value_words, words_if, front_words}
 use Rattle.tt_print.specs.text.Expressions.{FactorWords, is_zero, told_factor, is_zero_factor, sign_word, expr_words, addend_words, term_words, factor_words, expr_level, addend_level, term_level, factor_level}
-use Rattle.tt_sql.specs.Marks.{repeated, qualified, name_marks, column_marks, table_marks, quoted_marks, number_marks, value_marks, literal_marks, sign_marks, expr_marks, addend_marks, term_marks, factor_marks, factor_step, addend_step, expr_step, term_step}
-use Rattle.tt_sql.specs.Written.{literal, other_literal, negated, factor, term, sign, expr}
-use Rattle.tt_sql.specs.PrintedLiterals.{IsNameText}
+use Rattle.tt_sql.specs.marks.Expressions.{repeated, qualified, name_marks, column_marks, table_marks, quoted_marks, number_marks, value_marks, literal_marks, sign_marks, expr_marks, addend_marks, term_marks, factor_marks, factor_step, addend_step, expr_step, term_step}
+use Rattle.tt_sql.specs.grammar.Written.{literal, other_literal, negated, factor, term, sign, expr}
+use Rattle.tt_sql.specs.trees.Leaves.{IsNameText, IsWrittenValue}
 use Rattle.tt_print.specs.places.Marks.{unplaced}
 use Rattle.tt_print.specs.again.Spelling.{IsReadAs}
-use Rattle.tt_sql.specs.PrintedLiterals.{IsWrittenValue}
-use Rattle.tt_sql.specs.PrintedTrees.{IsWrittenName, IsWrittenColumn, IsWrittenTable, IsWrittenNumber, IsWrittenQuoted, IsWrittenLiteral, IsNotPositive, MayBeNegated, TermHas, AddendHas, ExprHas, FactorHas, IsWrittenFactor, IsWrittenExpr}
+use Rattle.tt_sql.specs.trees.Expressions.{IsWrittenName, IsWrittenColumn, IsWrittenTable, IsWrittenNumber, IsWrittenQuoted, IsWrittenLiteral, IsNotPositive, MayBeNegated, TermHas, AddendHas, ExprHas, FactorHas, IsWrittenFactor, IsWrittenExpr}
 use Rattle.tt_print.proofs.text.Expressions.{expr_words-out, term_words-out}
 use Rattle.tt_print.proofs.again.Spelling.{here, later, named}
 use Rattle.tt_print.proofs.again.Quoted.{numbered, text_quoted}

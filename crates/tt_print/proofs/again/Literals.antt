@@ -12,17 +12,15 @@ use Rattle.tt_value.specs.calendar.Reading.{digits_value, day_of}
 use Rattle.tt_value.proofs.calendar.Dates.{day_of-written}
 use Rattle.tt_value.specs.declared.value.Value.{Value}
 use Rattle.tt_value.specs.declared.value.Value.TheVariants.{Null, Int, Date, Text}
-use Rattle.tt_sql.specs.Grammar.{Lexeme, Way, At, Said, Meant, Tok, Note, Spells, token, note, both, is_of}
-use Rattle.tt_sql.specs.Read.{written_rule}
-use Rattle.tt_sql.specs.Written.{literal, other_literal}
-use Rattle.tt_sql.specs.Checks.{nowhere}
-use Rattle.tt_sql.specs.Parts.{placed, one, ◌▸◌, way, as_negative, as_date}
-use Rattle.tt_sql.specs.TokenKinds.{NULL, MINUS, DATE, DATE_TEXT, SHORT_NUMBER, NUMBER, LEAST_NUMBER, is_negative, word_kind, sign_kind, number_kind, text_kind, lexeme, unquoted, undoubled}
+use Rattle.tt_sql.specs.grammar.Grammar.{Lexeme, Way, At, Said, Meant, Tok, Note, Spells, token, note, both, is_of, nowhere}
+use Rattle.tt_sql.specs.grammar.Written.{written_rule, literal, other_literal}
+use Rattle.tt_sql.specs.grammar.Combinators.{placed, one, ◌▸◌, way, as_negative, as_date}
+use Rattle.tt_sql.specs.grammar.TokenKinds.{NULL, MINUS, DATE, DATE_TEXT, SHORT_NUMBER, NUMBER, LEAST_NUMBER, is_negative, word_kind, sign_kind, number_kind, text_kind, lexeme, unquoted, undoubled}
 use Rattle.tt_print.specs.text.Words.{value_words, day_word, is_day}
 use Rattle.tt_print.specs.again.Tokens.{token_kind, IsToken, AreTokens}
 use Rattle.tt_print.specs.again.Spelling.{IsSpelledBy}
-use Rattle.tt_sql.specs.Marks.{value_marks}
-use Rattle.tt_sql.specs.PrintedLiterals.{IsWrittenValue}
+use Rattle.tt_sql.specs.marks.Expressions.{value_marks}
+use Rattle.tt_sql.specs.trees.Leaves.{IsWrittenValue}
 use Rattle.tt_print.proofs.again.Spelling.{here, later, and_way}
 use Rattle.tt_print.proofs.again.Tokens.{fixed_token, number_token, quoted_token, plain_token, nothing_plain, day_plain}
 use Rattle.tt_print.proofs.again.Quoted.{decimal_means, number_lexeme, numbered, text_quoted}

@@ -17,21 +17,19 @@ use Rattle.tt_sql.specs.declared.query.Moment.TheVariants.{Timestamp as AtTimest
 use Rattle.tt_sql.specs.declared.query.Offset.{Offset}
 use Rattle.tt_sql.specs.declared.query.Side.{Side}
 use Rattle.tt_sql.specs.declared.query.Side.TheVariants as side
-use Rattle.tt_sql.specs.QueryGiven.{IsListed}
-use Rattle.tt_sql.specs.Grammar.{Lexeme, Way, Meant, Spells, token, note, both, is_of}
-use Rattle.tt_sql.specs.Checks.{nowhere}
-use Rattle.tt_sql.specs.Read.{written_rule}
-use Rattle.tt_sql.specs.Parts.{◌▸◌, ◌∣◌, one, way, quoted_moment, short_number, moment_mark}
-use Rattle.tt_sql.specs.TokenKinds.{AT, BEFORE, TIME_TEXT, SHORT_NUMBER, word_kind, sign_kind, text_kind, number_kind, lexeme, unquoted}
+use Rattle.tt_sql.specs.trees.Lists.{IsListed}
+use Rattle.tt_sql.specs.grammar.Grammar.{Lexeme, Way, Meant, Spells, token, note, both, is_of, nowhere}
+use Rattle.tt_sql.specs.grammar.Written.{written_rule, moment, clause, product}
+use Rattle.tt_sql.specs.grammar.Combinators.{◌▸◌, ◌∣◌, one, way, quoted_moment, short_number, moment_mark}
+use Rattle.tt_sql.specs.grammar.TokenKinds.{AT, BEFORE, TIME_TEXT, SHORT_NUMBER, word_kind, sign_kind, text_kind, number_kind, lexeme, unquoted}
 use Rattle.tt_print.specs.text.Words.{separated, number_words}
 use Rattle.tt_print.specs.text.Queries.{clock_at, fraction_at, timestamp_since, since_year_one, is_moment, moment_bytes, moment_word, timestamp_words, offset_words, moment_words, side_word, clause_words}
-use Rattle.tt_sql.specs.PrintedLiterals.{IsMoment}
-use Rattle.tt_sql.specs.Marks.{flag_marks, listed_marks, number_marks}
-use Rattle.tt_sql.specs.QueryMarks.{offset_marks, moment_marks, side_marks, clause_marks}
-use Rattle.tt_sql.specs.Written.{moment, clause, product}
+use Rattle.tt_sql.specs.trees.Leaves.{IsMoment}
+use Rattle.tt_sql.specs.marks.Expressions.{flag_marks, listed_marks, number_marks}
+use Rattle.tt_sql.specs.marks.Queries.{offset_marks, moment_marks, side_marks, clause_marks}
 use Rattle.tt_print.specs.again.Tokens.{IsToken}
 use Rattle.tt_print.specs.again.Spelling.{IsReadAs}
-use Rattle.tt_sql.specs.PrintedQueries.{IsShortNumber, IsWrittenMoment, IsWrittenClause}
+use Rattle.tt_sql.specs.trees.Queries.{IsShortNumber, IsWrittenMoment, IsWrittenClause}
 use Rattle.tt_print.proofs.again.Quoted.{noted_number}
 use Rattle.tt_print.proofs.again.Tokens.{IsPlain, nothing_plain, one_plain, digit_plain, day_plain, clock_plain, plain_token, number_token}
 use Rattle.tt_print.proofs.again.Literals.{between_quotes}

@@ -13,16 +13,16 @@ use Rattle.tt_value.specs.declared.predicate.Conjunction.{Conjunction, out-Conju
 use Rattle.tt_value.specs.declared.predicate.Unit.{Unit as Test, out-Unit, roll-Unit, roll-out-Unit}
 use Rattle.tt_value.specs.declared.predicate.Unit.TheOpen.{Unit-F}
 use Rattle.tt_value.specs.declared.predicate.Unit.TheFolds.{fold-roll-Unit}
-use Rattle.tt_sql.specs.QueryGiven.{IsListed}
-use Rattle.tt_sql.specs.Grammar.{Mark, Way}
-use Rattle.tt_sql.specs.Parts.{◌▸◌, one}
-use Rattle.tt_sql.specs.TokenKinds.{AND, OR, WHERE, word_kind, sign_kind}
+use Rattle.tt_sql.specs.trees.Lists.{IsListed}
+use Rattle.tt_sql.specs.grammar.Grammar.{Mark, Way}
+use Rattle.tt_sql.specs.grammar.Combinators.{◌▸◌, one}
+use Rattle.tt_sql.specs.grammar.TokenKinds.{AND, OR, WHERE, word_kind, sign_kind}
 use Rattle.tt_print.specs.text.Words.{Words, literal_words}
 use Rattle.tt_print.specs.text.Predicates.{comparison_word, operand_words, compare_words, is_null_words, in_words, between_words, starts_with_words, predicate_words, conjunction_words, unit_words, predicate_level, conjunction_level, unit_level, filter_words}
-use Rattle.tt_sql.specs.Marks.{repeated, listed_marks, flag_marks, column_marks, quoted_marks, literal_marks, operand_marks, comparison_marks, unit_marks, conjunction_marks, predicate_marks, unit_step, conjunction_step, predicate_step}
-use Rattle.tt_sql.specs.Written.{literal, compare, operand as operand_part, simple_unit, unit, conj, pred}
+use Rattle.tt_sql.specs.marks.Expressions.{repeated, listed_marks, flag_marks, column_marks, quoted_marks, literal_marks, operand_marks, comparison_marks, unit_marks, conjunction_marks, predicate_marks, unit_step, conjunction_step, predicate_step}
+use Rattle.tt_sql.specs.grammar.Written.{literal, compare, operand as operand_part, simple_unit, unit, conj, pred}
 use Rattle.tt_print.specs.again.Spelling.{IsReadAs}
-use Rattle.tt_sql.specs.PrintedTrees.{IsWrittenColumn, IsWrittenQuoted, IsWrittenLiteral, IsWrittenOperand, ConjunctionHas, PredicateHas, UnitHas, IsWrittenUnit, IsWrittenPredicate}
+use Rattle.tt_sql.specs.trees.Expressions.{IsWrittenColumn, IsWrittenQuoted, IsWrittenLiteral, IsWrittenOperand, ConjunctionHas, PredicateHas, UnitHas, IsWrittenUnit, IsWrittenPredicate}
 use Rattle.tt_print.proofs.text.Predicates.{predicate_words-out, conjunction_words-out}
 use Rattle.tt_print.proofs.again.Parts.{as_told, in_order, as_first, as_second, a_way, word_first, with_way, all_more, in_list, a_flag, in_brackets, in_production, word_last}
 use Rattle.tt_print.proofs.again.Expressions.{column_read, quoted_read, literal_read}

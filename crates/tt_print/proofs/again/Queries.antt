@@ -14,19 +14,19 @@ use Rattle.tt_sql.specs.declared.query.KeyColumn.TheVariants as key
 use Rattle.tt_sql.specs.declared.query.Query.{Query}
 use Rattle.tt_sql.specs.declared.query.Selection.{Selection}
 use Rattle.tt_sql.specs.declared.query.Selection.TheVariants as selection
-use Rattle.tt_sql.specs.Given.{Each}
-use Rattle.tt_sql.specs.Grammar.{Mark, At}
-use Rattle.tt_sql.specs.Parts.{◌▸◌, ◌∣◌, one, way, name, number, maybe, listed}
-use Rattle.tt_sql.specs.TokenKinds.{GROUP, BY, ORDER, LIMIT, ASC, DESC, WHERE, word_kind, sign_kind}
+use Rattle.tt_sql.specs.trees.Lists.{Each}
+use Rattle.tt_sql.specs.grammar.Grammar.{Mark, At}
+use Rattle.tt_sql.specs.grammar.Combinators.{◌▸◌, ◌∣◌, one, way, name, number, maybe, listed}
+use Rattle.tt_sql.specs.grammar.TokenKinds.{GROUP, BY, ORDER, LIMIT, ASC, DESC, WHERE, word_kind, sign_kind}
 use Rattle.tt_print.specs.text.Words.{Words, words_if, word_if, column_name_words, table_name_words}
 use Rattle.tt_print.specs.text.Predicates.{filter_words}
 use Rattle.tt_print.specs.text.Queries.{item_words, selection_words, clause_words, join_words, key_column_words, key_words, group_words, order_words, limit_words, narrowed_words, query_words}
-use Rattle.tt_sql.specs.Marks.{maybe_marks, flag_marks, number_marks, column_marks, table_marks, predicate_marks}
-use Rattle.tt_sql.specs.QueryMarks.{item_marks, selection_marks, clause_marks, joins_marks, key_column_marks, key_marks, maybe_listed, query_marks}
-use Rattle.tt_sql.specs.Written.{pred, clause, item as item_part, items, key as key_part, query_end, query}
+use Rattle.tt_sql.specs.marks.Expressions.{maybe_marks, flag_marks, number_marks, column_marks, table_marks, predicate_marks}
+use Rattle.tt_sql.specs.marks.Queries.{item_marks, selection_marks, clause_marks, joins_marks, key_column_marks, key_marks, maybe_listed, query_marks}
+use Rattle.tt_sql.specs.grammar.Written.{pred, clause, item as item_part, items, key as key_part, query_end, query}
 use Rattle.tt_print.specs.again.Spelling.{IsReadAs}
-use Rattle.tt_sql.specs.PrintedTrees.{IsWrittenColumn, IsWrittenNumber, IsWrittenPredicate}
-use Rattle.tt_sql.specs.PrintedQueries.{IsWrittenItem, IsWrittenSelection, IsWrittenClause, IsWrittenKeyColumn, IsWrittenKey, IsWrittenQuery}
+use Rattle.tt_sql.specs.trees.Expressions.{IsWrittenColumn, IsWrittenNumber, IsWrittenPredicate}
+use Rattle.tt_sql.specs.trees.Queries.{IsWrittenItem, IsWrittenSelection, IsWrittenClause, IsWrittenKeyColumn, IsWrittenKey, IsWrittenQuery}
 use Rattle.tt_print.proofs.again.Parts.{as_told, in_order, as_first, as_second, a_word, a_way, word_first, with_way, word_placed, in_list, when_there, put_in, left_out, in_brackets}
 use Rattle.tt_print.proofs.again.Expressions.{column_read, table_read, number_read, expr_read}
 use Rattle.tt_print.proofs.again.Predicates.{filter_read}

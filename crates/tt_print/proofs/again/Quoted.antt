@@ -13,11 +13,10 @@ use Rattle.std.proofs.Math.Seq.{take-append_seam}
 use Rattle.tt_lex.specs.declared.TokenKind.TheVariants as kinds
 use Rattle.tt_value.specs.calendar.Reading.{digits_value, day_of, timestamp_of}
 use Rattle.tt_value.specs.values.RowText.{quotes_doubled}
-use Rattle.tt_sql.specs.Grammar.{Lexeme, Way, Said, Meant, Tok, Note, Both, Spells, token, note, both, right, is_of}
-use Rattle.tt_sql.specs.Read.{written_rule}
-use Rattle.tt_sql.specs.Parts.{◌▸◌, ◌∣◌, one, number, quoted as quoted_part, as_number}
-use Rattle.tt_sql.specs.Written.{name_and_number, only_number}
-use Rattle.tt_sql.specs.TokenKinds.{BY, CLUSTER, OPEN, CLOSE, NAME, upper, unit_words, is_word, is_name, word_kind, SHORT_NUMBER, NUMBER, OTHER_TEXT, is_number, is_quoted, number_kind, text_kind, lexeme, unquoted, undoubled}
+use Rattle.tt_sql.specs.grammar.Grammar.{Lexeme, Way, Said, Meant, Tok, Note, Both, Spells, token, note, both, right, is_of}
+use Rattle.tt_sql.specs.grammar.Written.{written_rule, name_and_number, only_number}
+use Rattle.tt_sql.specs.grammar.Combinators.{◌▸◌, ◌∣◌, one, number, quoted as quoted_part, as_number}
+use Rattle.tt_sql.specs.grammar.TokenKinds.{BY, CLUSTER, OPEN, CLOSE, NAME, upper, unit_words, is_word, is_name, word_kind, SHORT_NUMBER, NUMBER, OTHER_TEXT, is_number, is_quoted, number_kind, text_kind, lexeme, unquoted, undoubled}
 use Rattle.tt_print.specs.text.Words.{quoted}
 use Rattle.tt_print.specs.again.Tokens.{token_kind}
 use Rattle.tt_print.specs.again.Spelling.{IsSpelledBy}

@@ -8,13 +8,12 @@ use Rattle.tt_sql.specs.declared.change.Dml.TheVariants.{Copy as CopyRows}
 use Rattle.tt_sql.specs.declared.table.Change.{Change}
 use Rattle.tt_sql.specs.declared.table.Change.TheVariants.{RenameTo, SwapWith, SetRetention, ClusterBy, DropClusteringKey, SuspendRecluster, ResumeRecluster}
 use Rattle.tt_sql.specs.declared.statement.Statement.TheVariants.{Dml, Drop, Undrop, Truncate, Alter, Begin, Commit, Rollback, Show, Metrics}
-use Rattle.tt_sql.specs.Grammar.{Mark, Way, Said, Meant}
-use Rattle.tt_sql.specs.GrammarLaws.{IsStatement}
-use Rattle.tt_sql.specs.Checks.{nowhere}
-use Rattle.tt_sql.specs.TokenKinds.{word_kind, sign_kind, TABLE, HISTORY, CLOSE, TABLE_STORAGE_METRICS}
-use Rattle.tt_sql.specs.Written.{change}
+use Rattle.tt_sql.specs.grammar.Grammar.{Mark, Way, Said, Meant, nowhere}
+use Rattle.tt_sql.specs.grammar.Statements.{IsStatement}
+use Rattle.tt_sql.specs.grammar.TokenKinds.{word_kind, sign_kind, TABLE, HISTORY, CLOSE, TABLE_STORAGE_METRICS}
+use Rattle.tt_sql.specs.grammar.Written.{change}
 use Rattle.tt_print.specs.text.Tables.{change_words}
-use Rattle.tt_sql.specs.PrintedLiterals.{IsNameText}
+use Rattle.tt_sql.specs.trees.Leaves.{IsNameText}
 use Rattle.tt_print.specs.again.Spelling.{IsSpelledBy, place_behind, plain, printed_lexemes}
 use Rattle.tt_print.proofs.again.Spelling.{in_turn, here, later, word_of, noted, spared, word_then, and_way, named, is_statement}
 use Rattle.tt_print.proofs.again.Quoted.{numbered, text_quoted}

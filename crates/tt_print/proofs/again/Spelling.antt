@@ -5,16 +5,15 @@ use Rattle.std.proofs.lemmas.List.{append-nil}
 use Rattle.std.proofs.lemmas.Bool.{and_parts, or_right, false≢true}
 use Rattle.tt_lex.specs.declared.TokenKind.TheVariants as kinds
 use Rattle.tt_lex.specs.Lexis.{is_word_start, is_word_part}
-use Rattle.tt_sql.specs.Grammar.{Lexeme, Mark, Way, Said, Gram, Tok, Note, Both, Either, Spells, token, note, both, left, right, nothing, is_of}
-use Rattle.tt_sql.specs.GrammarLaws.{IsStatement}
-use Rattle.tt_sql.specs.Read.{written_rule}
-use Rattle.tt_sql.specs.Written.{statement}
-use Rattle.tt_sql.specs.Parts.{way, name}
-use Rattle.tt_sql.specs.TokenKinds.{NAME, lexeme, word_kind, is_name}
+use Rattle.tt_sql.specs.grammar.Grammar.{Lexeme, Mark, Way, Said, Gram, Tok, Note, Both, Either, Spells, token, note, both, left, right, nothing, is_of}
+use Rattle.tt_sql.specs.grammar.Statements.{IsStatement}
+use Rattle.tt_sql.specs.grammar.Written.{written_rule, statement}
+use Rattle.tt_sql.specs.grammar.Combinators.{way, name}
+use Rattle.tt_sql.specs.grammar.TokenKinds.{NAME, lexeme, word_kind, is_name}
 use Rattle.tt_print.specs.text.Words.{Words}
 use Rattle.tt_print.specs.again.Tokens.{token_kind, lexemes_at}
 use Rattle.tt_print.specs.again.Spelling.{place_behind, onto, IsSpelledBy}
-use Rattle.tt_sql.specs.PrintedLiterals.{IsNameText}
+use Rattle.tt_sql.specs.trees.Leaves.{IsNameText}
 use Rattle.tt_print.proofs.again.Placing.{word_no_digit}
 
 -- ---- words behind words

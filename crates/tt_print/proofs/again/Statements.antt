@@ -16,23 +16,22 @@ use Rattle.tt_sql.specs.declared.statement.Statement.TheVariants as statement
 use Rattle.tt_sql.specs.declared.statement.TimeUnit.{TimeUnit}
 use Rattle.tt_sql.specs.declared.statement.TimeUnit.TheVariants as unit
 use Rattle.tt_sql.specs.declared.statement.Wait.{Wait}
-use Rattle.tt_sql.specs.Grammar.{Lexeme, Way, Said, Note, Spells, token, note, both, is_of}
-use Rattle.tt_sql.specs.Read.{written_rule}
-use Rattle.tt_sql.specs.Parts.{◌▸◌, one, quoted_name, is_unit_text, as_unit}
-use Rattle.tt_sql.specs.TokenKinds.{UNIT_TEXT, NAME_TEXT, upper, unit_words, word_kind, sign_kind, text_kind, lexeme, unquoted, undoubled}
+use Rattle.tt_sql.specs.grammar.Grammar.{Lexeme, Way, Said, Note, Spells, token, note, both, is_of}
+use Rattle.tt_sql.specs.grammar.Written.{written_rule, drop_table, undrop, truncate, begin, commit, rollback, wait, show, metrics, depth, statement as statement_part}
+use Rattle.tt_sql.specs.grammar.Combinators.{◌▸◌, one, quoted_name, is_unit_text, as_unit}
+use Rattle.tt_sql.specs.grammar.TokenKinds.{UNIT_TEXT, NAME_TEXT, upper, unit_words, word_kind, sign_kind, text_kind, lexeme, unquoted, undoubled}
 use Rattle.tt_print.specs.text.Words.{quoted, word_if, table_name_words}
 use Rattle.tt_print.specs.text.Changes.{dml_words}
 use Rattle.tt_print.specs.text.Statements.{unit_text, wait_words, front_text, depth_words, metrics_words, statement_words}
-use Rattle.tt_sql.specs.Marks.{flag_marks, qualified, table_marks}
-use Rattle.tt_sql.specs.ChangeMarks.{dml_marks}
-use Rattle.tt_sql.specs.StatementMarks.{unit_number, wait_marks, statement_marks}
-use Rattle.tt_sql.specs.Written.{drop_table, undrop, truncate, begin, commit, rollback, wait, show, metrics, depth, statement as statement_part}
+use Rattle.tt_sql.specs.marks.Expressions.{flag_marks, qualified, table_marks}
+use Rattle.tt_sql.specs.marks.Changes.{dml_marks}
+use Rattle.tt_sql.specs.marks.Statements.{unit_number, wait_marks, statement_marks}
 use Rattle.tt_print.specs.again.Tokens.{token_kind, IsToken}
-use Rattle.tt_sql.specs.PrintedLiterals.{IsNameText}
+use Rattle.tt_sql.specs.trees.Leaves.{IsNameText}
 use Rattle.tt_print.specs.again.Spelling.{IsReadAs}
-use Rattle.tt_sql.specs.PrintedTrees.{IsWrittenTable}
-use Rattle.tt_sql.specs.PrintedQueries.{IsShortNumber}
-use Rattle.tt_sql.specs.PrintedStatements.{IsWrittenDml, IsWrittenStatement}
+use Rattle.tt_sql.specs.trees.Expressions.{IsWrittenTable}
+use Rattle.tt_sql.specs.trees.Queries.{IsShortNumber}
+use Rattle.tt_sql.specs.trees.Statements.{IsWrittenDml, IsWrittenStatement}
 use Rattle.tt_print.proofs.again.Placing.{word_no_digit}
 use Rattle.tt_print.proofs.again.Spelling.{spared}
 use Rattle.tt_print.proofs.again.Tokens.{quoted_token, word_plain, quoted_name_token}

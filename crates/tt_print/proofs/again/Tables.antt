@@ -14,21 +14,21 @@ use Rattle.tt_sql.specs.declared.table.ColumnDefinition.{ColumnDefinition}
 use Rattle.tt_sql.specs.declared.table.CreatedTable.{CreatedTable}
 use Rattle.tt_sql.specs.declared.table.TableKind.{TableKind}
 use Rattle.tt_sql.specs.declared.table.TableKind.TheVariants as tables
-use Rattle.tt_sql.specs.QueryGiven.{IsListed, WhenThere}
-use Rattle.tt_sql.specs.Grammar.{Way, Meant}
-use Rattle.tt_sql.specs.Parts.{◌▸◌, one, maybe}
-use Rattle.tt_sql.specs.TokenKinds.{NOT, NULL, word_kind, sign_kind}
+use Rattle.tt_sql.specs.trees.Lists.{IsListed, WhenThere}
+use Rattle.tt_sql.specs.grammar.Grammar.{Way, Meant}
+use Rattle.tt_sql.specs.grammar.Combinators.{◌▸◌, one, maybe}
+use Rattle.tt_sql.specs.grammar.TokenKinds.{NOT, NULL, word_kind, sign_kind}
 use Rattle.tt_print.specs.text.Words.{Words, word_if, words_if, table_name_words, listed as listed_words}
 use Rattle.tt_print.specs.text.Queries.{clause_words, source_words}
 use Rattle.tt_print.specs.text.Tables.{create_words, kind_word, column_words, cluster_words, retention_words, options_words, created_words, cloned_words, change_words, alter_words}
-use Rattle.tt_sql.specs.Marks.{flag_marks, maybe_marks, name_marks, number_marks, table_marks}
-use Rattle.tt_sql.specs.QueryMarks.{clause_marks}
-use Rattle.tt_sql.specs.TableMarks.{kind_marks, definition_marks, table_kind_marks, create_marks, clone_marks, change_marks, alter_marks}
-use Rattle.tt_sql.specs.Written.{kind, column, cluster_by, retention, options, create_front, create, clone, clause, change as change_part, alter}
+use Rattle.tt_sql.specs.marks.Expressions.{flag_marks, maybe_marks, name_marks, number_marks, table_marks}
+use Rattle.tt_sql.specs.marks.Queries.{clause_marks}
+use Rattle.tt_sql.specs.marks.Tables.{kind_marks, definition_marks, table_kind_marks, create_marks, clone_marks, change_marks, alter_marks}
+use Rattle.tt_sql.specs.grammar.Written.{kind, column, cluster_by, retention, options, create_front, create, clone, clause, change as change_part, alter}
 use Rattle.tt_print.specs.again.Spelling.{IsReadAs}
-use Rattle.tt_sql.specs.PrintedTrees.{IsWrittenName, IsWrittenTable, IsWrittenNumber}
-use Rattle.tt_sql.specs.PrintedQueries.{IsWrittenClause, IsWrittenSource}
-use Rattle.tt_sql.specs.PrintedStatements.{IsWrittenDefinition, IsWrittenKind, IsWrittenOptions, IsWrittenChange}
+use Rattle.tt_sql.specs.trees.Expressions.{IsWrittenName, IsWrittenTable, IsWrittenNumber}
+use Rattle.tt_sql.specs.trees.Queries.{IsWrittenClause, IsWrittenSource}
+use Rattle.tt_sql.specs.trees.Statements.{IsWrittenDefinition, IsWrittenKind, IsWrittenOptions, IsWrittenChange}
 use Rattle.tt_print.proofs.again.Quoted.{lone_number}
 use Rattle.tt_print.proofs.again.Tokens.{number_token}
 use Rattle.tt_print.proofs.again.Parts.{as_told, in_order, as_first, as_second, a_word, a_way, word_first, with_way, in_list, when_there, put_in, left_out, in_brackets}

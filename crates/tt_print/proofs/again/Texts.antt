@@ -3,17 +3,17 @@ use Rattle.std.proofs.Common.{◌≡◌, ℕ, List, Ok, sym, ap, ◌∙◌, subs
 use Rattle.std.specs.List.{join_with_byte}
 use Rattle.tt_lex.specs.TokensOf.{tokens_of}
 use Rattle.tt_sql.specs.declared.statement.Statement.{Statement}
-use Rattle.tt_sql.specs.Grammar.{Mark}
-use Rattle.tt_sql.specs.GrammarLaws.{IsStatement}
-use Rattle.tt_sql.specs.TokenKinds.{lexemes}
+use Rattle.tt_sql.specs.grammar.Grammar.{Mark}
+use Rattle.tt_sql.specs.grammar.Statements.{IsStatement}
+use Rattle.tt_sql.specs.grammar.TokenKinds.{lexemes}
 use Rattle.tt_print.specs.places.Trees.{unplaced_statement}
-use Rattle.tt_sql.specs.StatementOf.{most_levels, statement_of}
-use Rattle.tt_sql.specs.StatementOfLaws.{found_statement, whole_text, is_text_of}
+use Rattle.tt_sql.specs.text.StatementOf.{most_levels, statement_of}
+use Rattle.tt_sql.proofs.text.StatementOf.{found_statement, whole_text, is_text_of}
 use Rattle.tt_print.specs.text.Statements.{statement_words, statement_text}
-use Rattle.tt_sql.specs.WrittenGiven.{statement_given}
+use Rattle.tt_sql.proofs.determined.Statements.{statement_given}
 use Rattle.tt_print.specs.again.Tokens.{tokens_at}
 use Rattle.tt_print.specs.places.Marks.{unplaced}
-use Rattle.tt_sql.specs.PrintedStatements.{IsWrittenStatement}
+use Rattle.tt_sql.specs.trees.Statements.{IsWrittenStatement}
 use Rattle.tt_print.specs.again.Texts.{IsReadAgain}
 use Rattle.tt_print.proofs.again.Placing.{words_are_tokens, words_are_lexemes}
 use Rattle.tt_print.proofs.again.Spelling.{is_statement}

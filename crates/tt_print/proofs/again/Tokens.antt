@@ -14,11 +14,10 @@ use Rattle.tt_lex.specs.Lexis.{Word, Number, Quoted, Sign, is_word_start, is_wor
 use Rattle.tt_value.specs.calendar.Calendar.{IsDay, IsCivil, CivilDate, date_of, date_text, day_text, days_in_month, two_digits, Clock, IsClock, clock_text}
 use Rattle.tt_value.proofs.calendar.DayNumbers.{numbered}
 use Rattle.tt_value.specs.values.RowText.{quotes_doubled}
-use Rattle.tt_sql.specs.TokenKinds.{NAME, LONG_NAME, reserved_words, other_words, place_in, is_word, is_name, word_kind, undoubled}
+use Rattle.tt_sql.specs.grammar.TokenKinds.{NAME, LONG_NAME, reserved_words, other_words, place_in, is_word, is_name, word_kind, undoubled}
 use Rattle.tt_print.specs.text.Words.{Words, quoted}
 use Rattle.tt_print.specs.again.Tokens.{IsToken, AreTokens}
-use Rattle.tt_sql.specs.PrintedLiterals.{IsNameText}
-use Rattle.tt_sql.specs.PrintedLiterals.{IsWrittenText}
+use Rattle.tt_sql.specs.trees.Leaves.{IsNameText, IsWrittenText}
 use Rattle.tt_print.proofs.again.Quoted.{numerals}
 
 pub tokens_both : (v w : Words) → AreTokens v → AreTokens w → AreTokens (v ++ w)

@@ -3,7 +3,6 @@ use Rattle.std.proofs.Common.{◌≡◌, ℕ, zero, suc, false, List, [], ◌∷
 use Rattle.std.specs.Prelude.{codes}
 use Rattle.std.specs.List.{flat_map}
 use Rattle.tt_value.specs.declared.name.Name.{Name}
-use Rattle.tt_value.specs.declared.name.Number.{Number}
 use Rattle.tt_value.specs.declared.name.Quoted.{Quoted}
 use Rattle.tt_value.specs.declared.name.Literal.{Literal}
 use Rattle.tt_value.specs.declared.name.ColumnName.{ColumnName}
@@ -18,15 +17,15 @@ use Rattle.tt_value.specs.declared.expression.Addend.{Addend, out-Addend, roll-A
 use Rattle.tt_value.specs.declared.expression.Factor.{Factor, out-Factor, roll-Factor, roll-out-Factor, out-roll-Factor}
 use Rattle.tt_value.specs.declared.expression.Factor.TheOpen.{Factor-F}
 use Rattle.tt_value.specs.declared.expression.Factor.TheFolds.{fold-roll-Factor, fold-roll-Term, fold-roll-Addend, fold-roll-Expr}
-use Rattle.tt_sql.specs.Given.{Each}
-use Rattle.tt_sql.specs.Grammar.{Mark, At}
-use Rattle.tt_print.specs.text.Words.{Words, word_if, name_words, column_name_words, table_name_words, quoted_words, number_words, literal_words}
+use Rattle.tt_sql.specs.trees.Lists.{Each}
+use Rattle.tt_sql.specs.grammar.Grammar.{Mark, At}
+use Rattle.tt_print.specs.text.Words.{Words, word_if, name_words, column_name_words, table_name_words, quoted_words, literal_words}
 use Rattle.tt_print.specs.text.Expressions.{FactorWords, told_factor, sign_word, expr_words, addend_words, term_words, factor_words, expr_level, addend_level, term_level, factor_level}
-use Rattle.tt_sql.specs.Marks.{name_marks, column_marks, table_marks, quoted_marks, number_marks, value_marks, literal_marks, sign_marks, expr_marks, addend_marks, term_marks, factor_marks, factor_step, addend_step, expr_step, term_step}
-use Rattle.tt_sql.specs.PrintedLiterals.{IsNameText}
+use Rattle.tt_sql.specs.marks.Expressions.{name_marks, column_marks, table_marks, quoted_marks, value_marks, literal_marks, sign_marks, expr_marks, addend_marks, term_marks, factor_marks, factor_step, addend_step, expr_step, term_step}
+use Rattle.tt_sql.specs.trees.Leaves.{IsNameText}
 use Rattle.tt_print.specs.places.Marks.{unplaced}
-use Rattle.tt_sql.specs.PrintedTrees.{IsWrittenName, IsWrittenColumn, IsWrittenTable, IsWrittenNumber, IsWrittenQuoted, IsWrittenLiteral, MayBeNegated, TermHas, AddendHas, ExprHas, FactorHas, IsWrittenFactor, IsWrittenExpr}
-use Rattle.tt_print.specs.places.Trees.{unplaced_name, unplaced_number, unplaced_quoted, unplaced_literal, unplaced_column, unplaced_table, factor_step as factor_bare, unplaced_factor, unplaced_term, unplaced_addend, unplaced_expr}
+use Rattle.tt_sql.specs.trees.Expressions.{IsWrittenName, IsWrittenColumn, IsWrittenTable, IsWrittenQuoted, IsWrittenLiteral, MayBeNegated, TermHas, AddendHas, ExprHas, FactorHas, IsWrittenFactor, IsWrittenExpr}
+use Rattle.tt_print.specs.places.Trees.{unplaced_name, unplaced_quoted, unplaced_literal, unplaced_column, unplaced_table, factor_step as factor_bare, unplaced_factor, unplaced_term, unplaced_addend, unplaced_expr}
 use Rattle.tt_print.proofs.again.Expressions.{words_of, zero_of, marks_of, told_are, marks_are}
 use Rattle.tt_print.proofs.places.Parts.{IsKept, Kept, both_noted, way_noted, each_right, each_written, all_noted}
 
@@ -34,9 +33,6 @@ use Rattle.tt_print.proofs.places.Parts.{IsKept, Kept, both_noted, way_noted, ea
 
 pub name_kept : (n : Name) → IsWrittenName n → Kept IsWrittenName name_words name_marks unplaced_name n
 name_kept n is = record { right = is; written = refl; noted = refl }
-
-pub number_kept : (n : Number) → IsWrittenNumber n → Kept IsWrittenNumber number_words number_marks unplaced_number n
-number_kept n is = record { right = is; written = refl; noted = refl }
 
 pub quoted_kept : (q : Quoted) → IsWrittenQuoted q → Kept IsWrittenQuoted quoted_words quoted_marks unplaced_quoted q
 quoted_kept q is = record { right = is; written = refl; noted = refl }

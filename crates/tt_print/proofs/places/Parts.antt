@@ -2,12 +2,11 @@
 use Rattle.std.proofs.Common.{◌≡◌, ℕ, List, [], ◌∷◌, ◌++◌, map, Option, Some, None, refl, sym, ap, ap₂, ◌∙◌}
 use Rattle.std.specs.Prelude.{option_map}
 use Rattle.std.proofs.lemmas.List.{map-append}
-use Rattle.tt_sql.specs.Given.{Each}
-use Rattle.tt_sql.specs.QueryGiven.{IsListed, WhenThere}
-use Rattle.tt_sql.specs.Grammar.{Mark, Way}
+use Rattle.tt_sql.specs.trees.Lists.{Each, IsListed, WhenThere}
+use Rattle.tt_sql.specs.grammar.Grammar.{Mark, Way}
 use Rattle.tt_print.specs.text.Words.{Words, words_if}
-use Rattle.tt_sql.specs.Marks.{repeated, listed_marks, maybe_marks}
-use Rattle.tt_sql.specs.QueryMarks.{maybe_listed}
+use Rattle.tt_sql.specs.marks.Expressions.{repeated, listed_marks, maybe_marks}
+use Rattle.tt_sql.specs.marks.Queries.{maybe_listed}
 use Rattle.tt_print.specs.places.Marks.{unplaced}
 
 pub record IsKept {A : Type 0} (ok : A → Type 0) (words : A → Words) (marks : A → List Mark) (y x : A) : Type 0 where

@@ -11,13 +11,13 @@ use Rattle.tt_value.specs.declared.predicate.Conjunction.{Conjunction, out-Conju
 use Rattle.tt_value.specs.declared.predicate.Unit.{Unit as Test, out-Unit, roll-Unit, roll-out-Unit, out-roll-Unit}
 use Rattle.tt_value.specs.declared.predicate.Unit.TheOpen.{Unit-F}
 use Rattle.tt_value.specs.declared.predicate.Unit.TheFolds.{fold-roll-Unit, fold-roll-Conjunction, fold-roll-Predicate}
-use Rattle.tt_sql.specs.Given.{Each}
-use Rattle.tt_sql.specs.Grammar.{Mark, Way}
+use Rattle.tt_sql.specs.trees.Lists.{Each}
+use Rattle.tt_sql.specs.grammar.Grammar.{Mark, Way}
 use Rattle.tt_print.specs.text.Words.{Words, word_if, listed, literal_words, quoted_words}
 use Rattle.tt_print.specs.text.Predicates.{comparison_word, operand_words, predicate_words, conjunction_words, unit_words, predicate_level, conjunction_level, unit_level, filter_words}
-use Rattle.tt_sql.specs.Marks.{flag_marks, literal_marks, quoted_marks, operand_marks, comparison_marks, unit_marks, conjunction_marks, predicate_marks, unit_step, conjunction_step, predicate_step}
+use Rattle.tt_sql.specs.marks.Expressions.{flag_marks, literal_marks, quoted_marks, operand_marks, comparison_marks, unit_marks, conjunction_marks, predicate_marks, unit_step, conjunction_step, predicate_step}
 use Rattle.tt_print.specs.places.Marks.{unplaced}
-use Rattle.tt_sql.specs.PrintedTrees.{IsWrittenLiteral, IsWrittenOperand, ConjunctionHas, PredicateHas, UnitHas, IsWrittenUnit, IsWrittenPredicate}
+use Rattle.tt_sql.specs.trees.Expressions.{IsWrittenLiteral, IsWrittenOperand, ConjunctionHas, PredicateHas, UnitHas, IsWrittenUnit, IsWrittenPredicate}
 use Rattle.tt_print.specs.places.Trees.{unplaced_literal, unplaced_quoted, unplaced_column, unplaced_operand, unit_step as unit_bare, unplaced_unit, unplaced_conjunction, unplaced_predicate}
 use Rattle.tt_print.proofs.again.Predicates.{words_of, marks_of, words_are, marks_are}
 use Rattle.tt_print.proofs.places.Parts.{IsKept, Kept, both_noted, way_noted, each_right, each_written, all_noted, list_right, list_written, list_noted}

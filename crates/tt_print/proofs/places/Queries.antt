@@ -20,16 +20,16 @@ use Rattle.tt_sql.specs.declared.query.Selection.TheVariants as selection
 use Rattle.tt_sql.specs.declared.query.Side.{Side}
 use Rattle.tt_sql.specs.declared.query.Side.TheVariants as side
 use Rattle.tt_sql.specs.declared.query.Source.{Source}
-use Rattle.tt_sql.specs.Given.{Each}
-use Rattle.tt_sql.specs.Grammar.{Mark, At}
+use Rattle.tt_sql.specs.trees.Lists.{Each}
+use Rattle.tt_sql.specs.grammar.Grammar.{Mark, At}
 use Rattle.tt_print.specs.text.Words.{Words, separated, listed, word_if, column_name_words, number_words}
 use Rattle.tt_print.specs.text.Predicates.{filter_words}
 use Rattle.tt_print.specs.text.Queries.{item_words, selection_words, moment_words, side_word, clause_words, source_words, join_words, key_column_words, key_words, group_words, order_words, limit_words, query_words}
-use Rattle.tt_sql.specs.Marks.{number_marks, column_marks, predicate_marks}
-use Rattle.tt_sql.specs.QueryMarks.{item_marks, selection_marks, moment_marks, side_marks, clause_marks, source_marks, joins_marks, key_column_marks, key_marks, query_marks}
+use Rattle.tt_sql.specs.marks.Expressions.{number_marks, column_marks, predicate_marks}
+use Rattle.tt_sql.specs.marks.Queries.{item_marks, selection_marks, moment_marks, side_marks, clause_marks, source_marks, joins_marks, key_column_marks, key_marks, query_marks}
 use Rattle.tt_print.specs.places.Marks.{unplaced}
-use Rattle.tt_sql.specs.PrintedTrees.{IsWrittenColumn, IsWrittenNumber, IsWrittenPredicate}
-use Rattle.tt_sql.specs.PrintedQueries.{IsWrittenItem, IsWrittenSelection, IsShortNumber, IsWrittenMoment, IsWrittenClause, IsWrittenSource, IsWrittenKeyColumn, IsWrittenKey, IsWrittenQuery}
+use Rattle.tt_sql.specs.trees.Expressions.{IsWrittenColumn, IsWrittenNumber, IsWrittenPredicate}
+use Rattle.tt_sql.specs.trees.Queries.{IsWrittenItem, IsWrittenSelection, IsShortNumber, IsWrittenMoment, IsWrittenClause, IsWrittenSource, IsWrittenKeyColumn, IsWrittenKey, IsWrittenQuery}
 use Rattle.tt_print.specs.places.Trees.{unplaced_number, unplaced_column, unplaced_predicate, unplaced_item, unplaced_selection, unplaced_moment, unplaced_clause, unplaced_source, unplaced_join, unplaced_key_column, unplaced_key, unplaced_query}
 use Rattle.tt_print.proofs.places.Parts.{Kept, both_noted, way_noted, each_right, each_written, list_right, list_written, list_noted, some_noted, maybe_right, maybe_written, maybe_noted}
 use Rattle.tt_print.proofs.places.Expressions.{column_kept, table_kept, expr_kept}

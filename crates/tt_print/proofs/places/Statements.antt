@@ -19,23 +19,23 @@ use Rattle.tt_sql.specs.declared.table.TableKind.TheVariants as tables
 use Rattle.tt_sql.specs.declared.table.TableOptions.{TableOptions}
 use Rattle.tt_sql.specs.declared.statement.Statement.{Statement}
 use Rattle.tt_sql.specs.declared.statement.Statement.TheVariants as statement
-use Rattle.tt_sql.specs.QueryGiven.{IsListed}
-use Rattle.tt_sql.specs.Grammar.{Mark, At}
+use Rattle.tt_sql.specs.trees.Lists.{IsListed}
+use Rattle.tt_sql.specs.grammar.Grammar.{Mark, At}
 use Rattle.tt_print.specs.text.Words.{Words, listed, name_words, literal_words, quoted_words}
 use Rattle.tt_print.specs.text.Predicates.{filter_words}
 use Rattle.tt_print.specs.text.Changes.{column_list_words, tuple_words, insert_source_words, set_words, dml_words}
 use Rattle.tt_print.specs.text.Tables.{create_words, column_words, cluster_words, retention_words, options_words, change_words}
 use Rattle.tt_print.specs.text.Statements.{table_text, statement_words}
-use Rattle.tt_sql.specs.Marks.{name_marks, number_marks, literal_marks, quoted_marks, predicate_marks}
-use Rattle.tt_sql.specs.QueryMarks.{query_marks}
-use Rattle.tt_sql.specs.ChangeMarks.{names_marks, tuple_marks, insert_source_marks, set_marks, dml_marks}
-use Rattle.tt_sql.specs.TableMarks.{kind_marks, definition_marks, options_marks, table_kind_marks, change_marks}
-use Rattle.tt_sql.specs.StatementMarks.{statement_marks}
-use Rattle.tt_sql.specs.StatementTreesLaws.{one_statement_tree}
-use Rattle.tt_sql.specs.WrittenGiven.{statement_given}
+use Rattle.tt_sql.specs.marks.Expressions.{name_marks, number_marks, literal_marks, quoted_marks, predicate_marks}
+use Rattle.tt_sql.specs.marks.Queries.{query_marks}
+use Rattle.tt_sql.specs.marks.Changes.{names_marks, tuple_marks, insert_source_marks, set_marks, dml_marks}
+use Rattle.tt_sql.specs.marks.Tables.{kind_marks, definition_marks, options_marks, table_kind_marks, change_marks}
+use Rattle.tt_sql.specs.marks.Statements.{statement_marks}
+use Rattle.tt_sql.proofs.machine.StatementTrees.{one_statement_tree}
+use Rattle.tt_sql.proofs.determined.Statements.{statement_given}
 use Rattle.tt_print.specs.places.Marks.{unplaced}
-use Rattle.tt_sql.specs.PrintedTrees.{IsWrittenName, IsWrittenNumber, IsWrittenLiteral, IsWrittenPredicate}
-use Rattle.tt_sql.specs.PrintedStatements.{IsWrittenTuple, IsWrittenInsertSource, IsWrittenSet, IsWrittenDml, IsWrittenDefinition, IsWrittenOptions, IsWrittenChange, IsWrittenStatement}
+use Rattle.tt_sql.specs.trees.Expressions.{IsWrittenName, IsWrittenNumber, IsWrittenLiteral, IsWrittenPredicate}
+use Rattle.tt_sql.specs.trees.Statements.{IsWrittenTuple, IsWrittenInsertSource, IsWrittenSet, IsWrittenDml, IsWrittenDefinition, IsWrittenOptions, IsWrittenChange, IsWrittenStatement}
 use Rattle.tt_print.specs.places.Trees.{unplaced_name, unplaced_number, unplaced_literal, unplaced_table, unplaced_predicate, unplaced_tuple, unplaced_insert_source, unplaced_set, unplaced_names, unplaced_dml, unplaced_definition, unplaced_options, unplaced_change, unplaced_statement}
 use Rattle.tt_print.proofs.places.Parts.{Kept, both_noted, way_noted, list_right, list_written, list_noted, maybe_right, maybe_written, maybe_noted}
 use Rattle.tt_print.proofs.places.Expressions.{name_kept, literal_kept, table_kept, expr_kept}

@@ -1,5 +1,5 @@
 -- Words with blanks between them.
-use Rattle.std.proofs.Common.{◌≡◌, ℕ, List, [], ◌∷◌, ◌++◌, refl, ap, ◌∙◌, sym, Result, Ok, Err, OnOk}
+use Rattle.std.proofs.Common.{◌≡◌, ℕ, List, [], ◌∷◌, ◌++◌, ap, ◌∙◌, sym, Result, Ok, Err, OnOk}
 use Rattle.std.proofs.lemmas.List.{append-nil}
 use Rattle.std.specs.Prelude.{is_ok, if◌then◌else◌}
 use Rattle.std.specs.List.{join_with_byte}
@@ -18,11 +18,6 @@ joined_behind (word ∷ words) text rest first are begins =
     let all : 32 ∷ (word ++ spaced words) ≡ first ∷ rest = sym are ∙ begins in
     let same : word ++ spaced words ≡ rest = cc in
     joined word words ∙ same
-
-pub joined_none : (words : List (List ℕ)) (text : List ℕ) → text ≡ spaced words → text ≡ [] → join_with_byte 32 words ≡ []
-unfolding spaced
-joined_none [] text are none = refl
-joined_none (word ∷ words) text are none = let clash : 32 ∷ (word ++ spaced words) ≡ [] = sym are ∙ none in absurd (cc)
 
 -- The words with a blank in front of each were made, and what stands behind the first blank was appended.
 pub appended : {T E : Type 0} (result : Result T E) (words : List (List ℕ)) (start text slice rest old new : List ℕ) (first : ℕ)

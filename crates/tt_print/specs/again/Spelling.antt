@@ -2,8 +2,8 @@
 use Rattle.std.specs.Prelude.{◌≡◌, ℕ, ◌+◌, false, List, [], ◌∷◌, ◌++◌, length, None}
 use Rattle.tt_value.specs.declared.name.Name.{Name}
 use Rattle.tt_value.specs.declared.name.TableName.{TableName}
-use Rattle.tt_sql.specs.Grammar.{Lexeme, Mark, Gram, Spells}
-use Rattle.tt_sql.specs.Read.{written_rule}
+use Rattle.tt_sql.specs.grammar.Grammar.{Lexeme, Mark, Gram, Spells}
+use Rattle.tt_sql.specs.grammar.Written.{written_rule}
 use Rattle.tt_print.specs.places.Marks.{unplaced}
 use Rattle.tt_print.specs.text.Words.{Words}
 use Rattle.tt_sql.specs.declared.statement.Statement.{Statement}

@@ -1,7 +1,7 @@
 -- A printed statement as it is read again.
 use Rattle.std.specs.Prelude.{◌≡◌, Ok}
 use Rattle.tt_sql.specs.declared.statement.Statement.{Statement}
-use Rattle.tt_sql.specs.StatementOf.{statement_of}
+use Rattle.tt_sql.specs.text.StatementOf.{statement_of}
 use Rattle.tt_print.specs.text.Statements.{statement_text}
 use Rattle.tt_print.specs.places.Trees.{unplaced_statement}
 

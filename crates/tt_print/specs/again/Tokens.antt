@@ -5,8 +5,8 @@ use Rattle.tt_lex.specs.declared.Token.{Token}
 use Rattle.tt_lex.specs.declared.TokenKind.{TokenKind}
 use Rattle.tt_lex.specs.declared.TokenKind.TheVariants as kinds
 use Rattle.tt_lex.specs.Lexis.{Piece, IsPiece, spelling, kind_of, is_word_start, is_quote}
-use Rattle.tt_sql.specs.Grammar.{Lexeme}
-use Rattle.tt_sql.specs.TokenKinds.{lexeme}
+use Rattle.tt_sql.specs.grammar.Grammar.{Lexeme}
+use Rattle.tt_sql.specs.grammar.TokenKinds.{lexeme}
 use Rattle.tt_sql.specs.declared.statement.Statement.{Statement}
 use Rattle.tt_print.specs.text.Statements.{statement_words}
 

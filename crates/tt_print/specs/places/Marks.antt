@@ -1,6 +1,6 @@
 -- Marks without their places.
 use Rattle.std.specs.Prelude.{List, map}
-use Rattle.tt_sql.specs.Grammar.{Mark, Way, At, Said, Meant}
+use Rattle.tt_sql.specs.grammar.Grammar.{Mark, Way, At, Said, Meant}
 
 -- marks but for their places
 abbrev pub unplaced_mark : Mark → Mark

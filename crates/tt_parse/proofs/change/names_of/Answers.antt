@@ -2,7 +2,7 @@ use Rattle.std.specs.Prelude.{⊤}
 use Rattle.tt_terminal.proofs.Steps.{stops_first}
 use Rattle.tt_terminal.proofs.Exits.{exits, within}
 use Rattle.std.proofs.Common.{◌∙◌, arith, length-append}
-use Rattle.tt_sql.specs.Marks.{name_marks}
+use Rattle.tt_sql.specs.marks.Expressions.{name_marks}
 use Rattle.tt_phrase.proofs.Lists.{list_begins, list_more, list_ends, list_fails, listed_push}
 use Rattle.tt_parse.proofs.change.names_of.Goals as goal
 

@@ -1,8 +1,8 @@
 use Rattle.std.proofs.Common.{◌≡◌, ◌≤◌, length, map}
 use Rattle.std.specs.Prelude.{⊤}
-use Rattle.tt_sql.specs.Parts.{name}
-use Rattle.tt_sql.specs.Marks.{name_marks}
-use Rattle.tt_sql.specs.QueryGiven.{IsListed}
+use Rattle.tt_sql.specs.grammar.Combinators.{name}
+use Rattle.tt_sql.specs.marks.Expressions.{name_marks}
+use Rattle.tt_sql.specs.trees.Lists.{IsListed}
 use Rattle.tt_phrase.proofs.Lists.{Listing}
 use Rattle.tt_parse.proofs.change.names_of.Given as goal
 

@@ -1,8 +1,8 @@
 use Rattle.tt_terminal.proofs.Steps.{stops_first}
 use Rattle.tt_terminal.proofs.Exits.{exits, within}
 use Rattle.std.proofs.Common.{◌∙◌, arith, length-append}
-use Rattle.tt_sql.specs.ChangeMarks.{set_marks}
-use Rattle.tt_sql.specs.StatementGiven.{IsGivenSet}
+use Rattle.tt_sql.specs.marks.Changes.{set_marks}
+use Rattle.tt_sql.specs.determined.Statements.{IsGivenSet}
 use Rattle.tt_phrase.proofs.Lists.{list_begins, list_more, list_ends, list_fails, listed_push}
 use Rattle.tt_parse.proofs.change.sets_of.Goals as goal
 

@@ -1,8 +1,8 @@
 use Rattle.std.proofs.Common.{◌≡◌, ◌≤◌, length, map}
-use Rattle.tt_sql.specs.Read.{read_set}
-use Rattle.tt_sql.specs.ChangeMarks.{set_marks}
-use Rattle.tt_sql.specs.QueryGiven.{IsListed}
-use Rattle.tt_sql.specs.StatementGiven.{IsGivenSet}
+use Rattle.tt_sql.specs.machine.Factored.{read_set}
+use Rattle.tt_sql.specs.marks.Changes.{set_marks}
+use Rattle.tt_sql.specs.trees.Lists.{IsListed}
+use Rattle.tt_sql.specs.determined.Statements.{IsGivenSet}
 use Rattle.tt_phrase.proofs.Lists.{Listing}
 use Rattle.tt_parse.proofs.change.sets_of.Given as goal
 

@@ -1,8 +1,8 @@
 use Rattle.std.proofs.Common.{◌≡◌, ◌≤◌, length, map}
-use Rattle.tt_sql.specs.Written.{tuple}
-use Rattle.tt_sql.specs.ChangeMarks.{tuple_marks}
-use Rattle.tt_sql.specs.QueryGiven.{IsListed}
-use Rattle.tt_sql.specs.StatementGiven.{IsGivenTuple}
+use Rattle.tt_sql.specs.grammar.Written.{tuple}
+use Rattle.tt_sql.specs.marks.Changes.{tuple_marks}
+use Rattle.tt_sql.specs.trees.Lists.{IsListed}
+use Rattle.tt_sql.specs.determined.Statements.{IsGivenTuple}
 use Rattle.tt_phrase.proofs.Lists.{Listing}
 use Rattle.tt_parse.proofs.change.tuples_of.Given as goal
 

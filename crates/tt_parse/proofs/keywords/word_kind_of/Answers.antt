@@ -1,4 +1,4 @@
-use Rattle.tt_sql.specs.TokenKinds.{upper}
+use Rattle.tt_sql.specs.grammar.TokenKinds.{upper}
 use Rattle.tt_terminal.specs.KindNumbers.{kind_number}
 use Rattle.tt_parse.proofs.Tables.{word_stands}
 use Rattle.tt_parse.proofs.keywords.word_kind_of.Goals as goal

@@ -1,6 +1,6 @@
 use Rattle.std.proofs.Common.{ℕ, List, sym, subst}
 use Rattle.tt_value.specs.values.Texts.{IsText}
-use Rattle.tt_sql.specs.TokenKinds.{unquoted}
+use Rattle.tt_sql.specs.grammar.TokenKinds.{unquoted}
 use Rattle.tt_terminal.proofs.Quotes.{text_plain}
 use Rattle.tt_parse.proofs.lexed.lexed_of.Goals as goal
 

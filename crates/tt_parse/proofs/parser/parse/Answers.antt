@@ -1,8 +1,8 @@
 use Rattle.std.proofs.Common.{ℕ, List, length, All, ap, subst, sym}
 use Rattle.tt_lex.specs.Lexis.{HasTokens}
-use Rattle.tt_sql.specs.Grammar.{Lexeme}
-use Rattle.tt_sql.specs.StatementOf.{statement_of}
-use Rattle.tt_sql.specs.TokenKinds.{lexemes}
+use Rattle.tt_sql.specs.grammar.Grammar.{Lexeme}
+use Rattle.tt_sql.specs.text.StatementOf.{statement_of}
+use Rattle.tt_sql.specs.grammar.TokenKinds.{lexemes}
 use Rattle.tt_parse.specs.Answers.{Answers, Says}
 use Rattle.tt_parse.specs.Lexing.{IsToken}
 use Rattle.tt_parse.proofs.Lexing.{all_tokens, whole_seen}

@@ -2,7 +2,7 @@ use Rattle.std.proofs.Common.{◌≡◌, ◌==◌, ◌∙◌, List, [], length, 
 use Rattle.std.proofs.lemmas.Bool.{eqb-true}
 use Rattle.std.proofs.lemmas.List.{nil_from_length}
 use Rattle.tt_terminal.specs.declared.rest.Lexed.{Lexed}
-use Rattle.tt_sql.specs.GrammarLaws.{read_run}
+use Rattle.tt_sql.specs.machine.Reading.{read_run}
 use Rattle.tt_terminal.specs.Reading.{seen, first_place}
 use Rattle.tt_parse.proofs.Statements.{says_exit, says_behind}
 use Rattle.tt_parse.proofs.Whole.{says_goes}

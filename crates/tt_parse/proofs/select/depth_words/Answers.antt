@@ -1,6 +1,6 @@
 use Rattle.std.proofs.Common.{◌∷◌, []}
 use Rattle.tt_phrase.proofs.SelectReads.{begins_not, begins_not_later, follow_last, follow_more}
-use Rattle.tt_sql.specs.TokenKinds.{OPEN, SELECT, SYSTEM_CLUSTERING_DEPTH}
+use Rattle.tt_sql.specs.grammar.TokenKinds.{OPEN, SELECT, SYSTEM_CLUSTERING_DEPTH}
 use Rattle.tt_parse.proofs.select.depth_words.Goals as goal
 
 pub returns-in_err-rest : goal.returns-in_err-rest

@@ -1,8 +1,8 @@
 use Rattle.std.proofs.Common.{◌≡◌, ◌≤◌, ◌∷◌, ◌∙◌, ℕ, false, List, [], length, All, refl, sym, ap, subst, true≢false}
 use Rattle.tt_value.specs.values.Texts.{IsPrintableAscii}
-use Rattle.tt_sql.specs.Grammar.{Said, is_of}
-use Rattle.tt_sql.specs.Parts.{quoted_name}
-use Rattle.tt_sql.specs.TokenKinds.{OTHER_TEXT, is_quoted, upper}
+use Rattle.tt_sql.specs.grammar.Grammar.{Said, is_of}
+use Rattle.tt_sql.specs.grammar.Combinators.{quoted_name}
+use Rattle.tt_sql.specs.grammar.TokenKinds.{OTHER_TEXT, is_quoted, upper}
 use Rattle.tt_terminal.specs.Reading.{Fails, IsQuoted, first_kind, first_place}
 use Rattle.tt_terminal.proofs.Steps.{marks_are, stops_here}
 use Rattle.tt_parse.proofs.QuotedNames.{name_is_quoted, name_printable, passes_quoted_name}

@@ -1,5 +1,5 @@
 use Rattle.std.proofs.Common.{◌≡◌, false}
-use Rattle.tt_sql.specs.SelectLaws.{begins_with}
+use Rattle.tt_sql.specs.grammar.Lexemes.{begins_with}
 use Rattle.tt_terminal.specs.Reading.{seen}
 use Rattle.tt_phrase.specs.Selects.{depth_kinds, view_kinds}
 use Rattle.tt_terminal.proofs.Steps.{passes_as, stops_first}

@@ -1,5 +1,5 @@
 use Rattle.std.proofs.Common.{◌∷◌, []}
-use Rattle.tt_sql.specs.Grammar.{Way}
+use Rattle.tt_sql.specs.grammar.Grammar.{Way}
 use Rattle.tt_terminal.specs.declared.rest.Rest.{Rest}
 use Rattle.tt_phrase.specs.Selects.{view_kinds}
 use Rattle.tt_terminal.proofs.Exits.{within}

@@ -2,10 +2,10 @@ use Rattle.std.proofs.Common.{◌++◌, ◌∷◌, [], refl}
 use Rattle.tt_terminal.proofs.Steps.{marks_are, passes_both, passes_left, passes_right, passes_as, passes_word, stops_first, stops_second, stops_left, stops_right, stops_word, word_kind_is}
 use Rattle.tt_terminal.proofs.Exits.{exits, within, regroup, passes_then}
 use Rattle.std.proofs.Common.{map}
-use Rattle.tt_sql.specs.Grammar.{Way}
-use Rattle.tt_sql.specs.Marks.{flag_marks, listed_marks, maybe_marks, table_marks}
-use Rattle.tt_sql.specs.QueryMarks.{clause_marks}
-use Rattle.tt_sql.specs.TableMarks.{definition_marks, options_marks, table_kind_marks}
+use Rattle.tt_sql.specs.grammar.Grammar.{Way}
+use Rattle.tt_sql.specs.marks.Expressions.{flag_marks, listed_marks, maybe_marks, table_marks}
+use Rattle.tt_sql.specs.marks.Queries.{clause_marks}
+use Rattle.tt_sql.specs.marks.Tables.{definition_marks, options_marks, table_kind_marks}
 use Rattle.tt_parse.proofs.table.create_of.Goals as goal
 
 pub returns-in_err-replaces-clause-reads : goal.returns-in_err-replaces-clause-reads

@@ -1,8 +1,8 @@
 use Rattle.std.proofs.Common.{◌≡◌, ◌≤◌, length, map}
 use Rattle.std.specs.Prelude.{⊤}
-use Rattle.tt_sql.specs.Written.{column}
-use Rattle.tt_sql.specs.TableMarks.{definition_marks}
-use Rattle.tt_sql.specs.QueryGiven.{IsListed}
+use Rattle.tt_sql.specs.grammar.Written.{column}
+use Rattle.tt_sql.specs.marks.Tables.{definition_marks}
+use Rattle.tt_sql.specs.trees.Lists.{IsListed}
 use Rattle.tt_phrase.proofs.Lists.{Listing}
 use Rattle.tt_parse.proofs.table.definitions_of.Given as goal
 

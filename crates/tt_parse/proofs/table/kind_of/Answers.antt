@@ -1,6 +1,6 @@
 use Rattle.std.proofs.Common.{[], refl}
 use Rattle.tt_terminal.proofs.Steps.{passes_left, passes_right, passes_as, passes_last_word, stops_here, word_kind_is}
-use Rattle.tt_sql.specs.Written.{kind}
+use Rattle.tt_sql.specs.grammar.Written.{kind}
 use Rattle.tt_terminal.specs.Reading.{Fails, first_place}
 use Rattle.tt_parse.proofs.table.kind_of.Goals as goal
 

@@ -1,10 +1,10 @@
 use Rattle.std.proofs.Common.{◌≡◌, [], false, refl}
 use Rattle.tt_terminal.proofs.Steps.{passes_both, passes_left, passes_right, passes_noted, stops_first, stops_second, stops_here, stops_left, word_kind_is, passes_token, stops_token, is_of_one}
 use Rattle.tt_terminal.proofs.Exits.{exits, within}
-use Rattle.tt_sql.specs.Grammar.{Tok, Note, is_of}
-use Rattle.tt_sql.specs.Parts.{one, ◌▸◌, ◌∣◌}
-use Rattle.tt_sql.specs.TokenKinds.{BY, CLOSE, CLUSTER, EQUAL, NAME, OPEN, SHORT_NUMBER, is_name, is_number}
-use Rattle.tt_sql.specs.Written.{name_and_number, only_number}
+use Rattle.tt_sql.specs.grammar.Grammar.{Tok, Note, is_of}
+use Rattle.tt_sql.specs.grammar.Combinators.{one, ◌▸◌, ◌∣◌}
+use Rattle.tt_sql.specs.grammar.TokenKinds.{BY, CLOSE, CLUSTER, EQUAL, NAME, OPEN, SHORT_NUMBER, is_name, is_number}
+use Rattle.tt_sql.specs.grammar.Written.{name_and_number, only_number}
 use Rattle.tt_terminal.specs.Reading.{Fails, IsName, first_kind, first_place}
 use Rattle.tt_parse.proofs.table.retained_options.Goals as goal
 

@@ -1,8 +1,8 @@
 use Rattle.std.proofs.Common.{◌≡◌, [], List, ℕ, false, refl, sym, ap, subst, ◌∙◌, true≢false, bytes_eq}
 use Rattle.std.specs.List.{list_any}
-use Rattle.tt_sql.specs.Grammar.{Note, is_of}
-use Rattle.tt_sql.specs.TokenKinds.{OTHER_TEXT, UNIT_TEXT, is_quoted, unit_words, upper}
-use Rattle.tt_sql.specs.Parts.{as_unit, one, ◌▸◌}
+use Rattle.tt_sql.specs.grammar.Grammar.{Note, is_of}
+use Rattle.tt_sql.specs.grammar.TokenKinds.{OTHER_TEXT, UNIT_TEXT, is_quoted, unit_words, upper}
+use Rattle.tt_sql.specs.grammar.Combinators.{as_unit, one, ◌▸◌}
 use Rattle.tt_terminal.specs.Reading.{Fails, IsQuoted, first_kind, first_place}
 use Rattle.tt_parse.specs.Tables.{IsUnit}
 use Rattle.tt_terminal.proofs.Steps.{stops_here, word_kind_is}

@@ -1,12 +1,12 @@
 use Rattle.std.proofs.Common.{◌+◌, ◌*◌, map, length}
-use Rattle.tt_sql.specs.Checks.{nowhere}
-use Rattle.tt_sql.specs.Given.{Each, IsGivenAddend, IsGivenFactor}
-use Rattle.tt_sql.specs.Grammar.{Both}
-use Rattle.tt_sql.specs.Parts.{one}
-use Rattle.tt_sql.specs.TokenKinds.{STAR}
-use Rattle.tt_sql.specs.Written.{sign}
-use Rattle.tt_sql.specs.Marks.{addend_marks, factor_marks}
-use Rattle.tt_sql.specs.Read.{read_factor, read_factors}
+use Rattle.tt_sql.specs.grammar.Grammar.{nowhere, Both}
+use Rattle.tt_sql.specs.trees.Lists.{Each}
+use Rattle.tt_sql.specs.determined.Expressions.{IsGivenAddend, IsGivenFactor}
+use Rattle.tt_sql.specs.grammar.Combinators.{one}
+use Rattle.tt_sql.specs.grammar.TokenKinds.{STAR}
+use Rattle.tt_sql.specs.grammar.Written.{sign}
+use Rattle.tt_sql.specs.marks.Expressions.{addend_marks, factor_marks}
+use Rattle.tt_sql.specs.machine.Factored.{read_factor, read_factors}
 use Rattle.tt_terminal.specs.Reading.{Collected}
 use Rattle.tt_phrase.proofs.expression.+expressions.Given as goal
 

@@ -1,6 +1,6 @@
 use Rattle.std.proofs.Common.{◌∙◌, ℕ, ℤ, List, [], ◌∷◌, ◌++◌, refl, sym, ap}
-use Rattle.tt_sql.specs.Grammar.{Meant, Way, Mark}
-use Rattle.tt_sql.specs.MarksLaws.{marks-Literal}
+use Rattle.tt_sql.specs.grammar.Grammar.{Meant, Way, Mark}
+use Rattle.tt_sql.proofs.marks.Expressions.{marks-Literal}
 use Rattle.tt_phrase.specs.Factors.{last_minus}
 use Rattle.tt_terminal.specs.Reading.{Fails, first_place}
 use Rattle.tt_terminal.proofs.Steps.{marks_are, passes_token, passes_left, passes_both, passes_ways, is_of_one, takes_kind, stops_here, stops_word, stops_token, stops_right, stops_deep_front, word_place}

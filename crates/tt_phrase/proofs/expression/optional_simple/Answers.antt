@@ -1,7 +1,7 @@
 use Rattle.std.proofs.Common.{◌≡◌, ◌∙◌, false, List, [], ◌∷◌, ◌++◌, ap, refl}
-use Rattle.tt_sql.specs.Grammar.{Way, Mark, is_of}
-use Rattle.tt_sql.specs.TokenKinds.{OTHER_TEXT, is_quoted}
-use Rattle.tt_sql.specs.MarksLaws.{marks-Literal, marks-Column}
+use Rattle.tt_sql.specs.grammar.Grammar.{Way, Mark, is_of}
+use Rattle.tt_sql.specs.grammar.TokenKinds.{OTHER_TEXT, is_quoted}
+use Rattle.tt_sql.proofs.marks.Expressions.{marks-Literal, marks-Column}
 use Rattle.tt_terminal.specs.Reading.{IsQuoted, IsName, first_kind}
 use Rattle.tt_terminal.proofs.Steps.{marks_are}
 use Rattle.tt_phrase.proofs.Factors.{passes_null, passes_text, passes_day, passes_column}

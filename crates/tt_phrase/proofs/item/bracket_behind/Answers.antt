@@ -1,6 +1,6 @@
 use Rattle.std.proofs.Common.{◌∷◌, []}
 use Rattle.tt_terminal.specs.KindNumbers.{kind_number}
-use Rattle.tt_sql.specs.TokenKinds.{OPEN}
+use Rattle.tt_sql.specs.grammar.TokenKinds.{OPEN}
 use Rattle.tt_phrase.proofs.SelectReads.{begins_not, begins_not_later}
 use Rattle.tt_phrase.proofs.item.bracket_behind.Goals as goal
 

@@ -1,8 +1,8 @@
 use Rattle.tt_terminal.proofs.Steps.{stops_first}
 use Rattle.tt_terminal.proofs.Exits.{exits, within}
 use Rattle.std.proofs.Common.{◌∙◌, arith, length-append}
-use Rattle.tt_sql.specs.QueryMarks.{item_marks}
-use Rattle.tt_sql.specs.QueryGiven.{IsGivenItem}
+use Rattle.tt_sql.specs.marks.Queries.{item_marks}
+use Rattle.tt_sql.specs.determined.Queries.{IsGivenItem}
 use Rattle.tt_phrase.proofs.Lists.{list_begins, list_more, list_ends, list_fails, listed_push}
 use Rattle.tt_phrase.proofs.item.items_of.Goals as goal
 

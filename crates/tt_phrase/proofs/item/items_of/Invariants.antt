@@ -1,8 +1,9 @@
 use Rattle.std.proofs.Common.{◌≡◌, ◌≤◌, length, map}
-use Rattle.tt_sql.specs.Checks.{nowhere}
-use Rattle.tt_sql.specs.Read.{read_item}
-use Rattle.tt_sql.specs.QueryMarks.{item_marks}
-use Rattle.tt_sql.specs.QueryGiven.{IsGivenItem, IsListed}
+use Rattle.tt_sql.specs.grammar.Grammar.{nowhere}
+use Rattle.tt_sql.specs.machine.Factored.{read_item}
+use Rattle.tt_sql.specs.marks.Queries.{item_marks}
+use Rattle.tt_sql.specs.determined.Queries.{IsGivenItem}
+use Rattle.tt_sql.specs.trees.Lists.{IsListed}
 use Rattle.tt_phrase.proofs.Lists.{Listing}
 use Rattle.tt_phrase.proofs.item.items_of.Given as goal
 

@@ -1,7 +1,7 @@
 use Rattle.tt_terminal.proofs.Steps.{stops_first}
 use Rattle.tt_terminal.proofs.Exits.{exits, within}
 use Rattle.std.proofs.Common.{◌∙◌, arith, length-append}
-use Rattle.tt_sql.specs.Marks.{literal_marks}
+use Rattle.tt_sql.specs.marks.Expressions.{literal_marks}
 use Rattle.tt_value.specs.values.RowText.{IsPrintableValue}
 use Rattle.tt_phrase.proofs.Lists.{list_begins, list_more, list_ends, list_fails, listed_push}
 use Rattle.tt_phrase.proofs.literals.literals_of.Goals as goal

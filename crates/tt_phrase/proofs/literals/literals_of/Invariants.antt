@@ -1,7 +1,7 @@
 use Rattle.std.proofs.Common.{◌≡◌, ◌≤◌, length, map}
-use Rattle.tt_sql.specs.Written.{literal}
-use Rattle.tt_sql.specs.Marks.{literal_marks}
-use Rattle.tt_sql.specs.QueryGiven.{IsListed}
+use Rattle.tt_sql.specs.grammar.Written.{literal}
+use Rattle.tt_sql.specs.marks.Expressions.{literal_marks}
+use Rattle.tt_sql.specs.trees.Lists.{IsListed}
 use Rattle.tt_value.specs.values.RowText.{IsPrintableValue}
 use Rattle.tt_phrase.proofs.Lists.{Listing}
 use Rattle.tt_phrase.proofs.literals.literals_of.Given as goal

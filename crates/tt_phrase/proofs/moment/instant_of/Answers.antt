@@ -4,9 +4,9 @@ use Rattle.std.specs.Int.{w64}
 use Rattle.std.specs.Int.RustNames.{FitsSigned}
 use Rattle.std.proofs.lemmas.Int.{to_z-of_z}
 use Rattle.tt_value.specs.calendar.Reading.{timestamp_of}
-use Rattle.tt_sql.specs.Grammar.{Meant, is_of}
-use Rattle.tt_sql.specs.TokenKinds.{OTHER_TEXT, is_quoted}
-use Rattle.tt_sql.specs.Parts.{quoted_moment}
+use Rattle.tt_sql.specs.grammar.Grammar.{Meant, is_of}
+use Rattle.tt_sql.specs.grammar.TokenKinds.{OTHER_TEXT, is_quoted}
+use Rattle.tt_sql.specs.grammar.Combinators.{quoted_moment}
 use Rattle.tt_terminal.specs.Reading.{Fails, IsQuoted, first_kind, first_place}
 use Rattle.tt_terminal.proofs.Steps.{stops_here, word_kind_is, marks_are}
 use Rattle.tt_phrase.proofs.Instants.{is_instant, passes_instant}

@@ -6,8 +6,8 @@ use Rattle.std.proofs.Common.{ℤ}
 use Rattle.std.specs.Int.{w64}
 use Rattle.std.specs.Int.RustNames.{FitsSigned}
 use Rattle.std.proofs.lemmas.Int.{to_z-of_z}
-use Rattle.tt_sql.specs.Grammar.{Meant, Way}
-use Rattle.tt_sql.specs.Written.{moment}
+use Rattle.tt_sql.specs.grammar.Grammar.{Meant, Way}
+use Rattle.tt_sql.specs.grammar.Written.{moment}
 use Rattle.tt_phrase.proofs.moment.moment_of.Goals as goal
 
 pub returns-in_err-rest-clause-reads : goal.returns-in_err-rest-clause-reads

@@ -2,8 +2,8 @@ use Rattle.std.proofs.Common.{◌∷◌, []}
 use Rattle.tt_terminal.proofs.Steps.{marks_are, passes_both, passes_as, stops_first, stops_second}
 use Rattle.tt_terminal.proofs.Exits.{exits, within}
 use Rattle.std.proofs.Common.{append_assoc, map}
-use Rattle.tt_sql.specs.Grammar.{Way}
-use Rattle.tt_sql.specs.Marks.{flag_marks, listed_marks, number_marks}
+use Rattle.tt_sql.specs.grammar.Grammar.{Way}
+use Rattle.tt_sql.specs.marks.Expressions.{flag_marks, listed_marks, number_marks}
 use Rattle.tt_phrase.proofs.moment.offset_of.Goals as goal
 
 pub returns-in_err-factors-clause-reads : goal.returns-in_err-factors-clause-reads

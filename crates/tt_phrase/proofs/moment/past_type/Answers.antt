@@ -1,9 +1,9 @@
 use Rattle.std.proofs.Common.{[], refl}
 use Rattle.tt_terminal.proofs.Steps.{passes_left, passes_right, passes_as, passes_word, passes_way, stops_here, stops_left, stops_word, word_kind_is}
 use Rattle.tt_terminal.specs.Reading.{Fails, first_place}
-use Rattle.tt_sql.specs.Written.{either_timestamp}
-use Rattle.tt_sql.specs.Parts.{one, way, ◌▸◌, ◌∣◌}
-use Rattle.tt_sql.specs.TokenKinds.{DOUBLE_COLON}
+use Rattle.tt_sql.specs.grammar.Written.{either_timestamp}
+use Rattle.tt_sql.specs.grammar.Combinators.{one, way, ◌▸◌, ◌∣◌}
+use Rattle.tt_sql.specs.grammar.TokenKinds.{DOUBLE_COLON}
 use Rattle.tt_phrase.proofs.moment.past_type.Goals as goal
 
 pub returns-in_default : goal.returns-in_default

@@ -1,12 +1,12 @@
 use Rattle.std.proofs.Common.{◌≡◌, ◌∙◌, ◌-◌, suc, ◌∷◌, refl, ap, arith}
 use Rattle.std.proofs.lemmas.Result.{err_from_is_err_and}
-use Rattle.tt_sql.specs.Grammar.{Way}
-use Rattle.tt_sql.specs.Marks.{conjunction_marks, predicate_marks, unit_marks}
-use Rattle.tt_sql.specs.MarksLaws.{marks-Conjunction, marks-Group, marks-Not, marks-Predicate}
+use Rattle.tt_sql.specs.grammar.Grammar.{Way}
+use Rattle.tt_sql.specs.marks.Expressions.{conjunction_marks, predicate_marks, unit_marks}
+use Rattle.tt_sql.proofs.marks.Expressions.{marks-Conjunction, marks-Group, marks-Not, marks-Predicate}
 use Rattle.tt_phrase.proofs.Operands.{simple_passes, simple_stops, deeper_passes, deeper_stops}
 use Rattle.tt_terminal.proofs.Exits.{passes_then, turns_right}
 use Rattle.tt_terminal.proofs.Steps.{collected_all, collected_fails, collected_push, error_as, marks_are, passes_again, passes_both, passes_left, passes_note, passes_right, passes_word, reads_as, stops_again, stops_first, stops_left, stops_note, stops_right, stops_second, stops_word, word_kind_is}
-use Rattle.tt_sql.specs.Given.{IsGivenConjunction, IsGivenUnit}
+use Rattle.tt_sql.specs.determined.Expressions.{IsGivenConjunction, IsGivenUnit}
 use Rattle.tt_phrase.proofs.GivenTrees.{each_push, given_conjunction, given_group, given_not, given_predicate}
 use Rattle.tt_phrase.proofs.predicate.+predicates.Goals as goal
 

@@ -1,10 +1,11 @@
 use Rattle.std.proofs.Common.{◌+◌, ◌*◌, map, length}
-use Rattle.tt_sql.specs.Given.{Each, IsGivenConjunction, IsGivenUnit}
-use Rattle.tt_sql.specs.Grammar.{Both}
-use Rattle.tt_sql.specs.Marks.{conjunction_marks, unit_marks}
-use Rattle.tt_sql.specs.Parts.{one}
-use Rattle.tt_sql.specs.Read.{read_conj, read_unit}
-use Rattle.tt_sql.specs.TokenKinds.{AND, OR}
+use Rattle.tt_sql.specs.trees.Lists.{Each}
+use Rattle.tt_sql.specs.determined.Expressions.{IsGivenConjunction, IsGivenUnit}
+use Rattle.tt_sql.specs.grammar.Grammar.{Both}
+use Rattle.tt_sql.specs.marks.Expressions.{conjunction_marks, unit_marks}
+use Rattle.tt_sql.specs.grammar.Combinators.{one}
+use Rattle.tt_sql.specs.machine.Factored.{read_conj, read_unit}
+use Rattle.tt_sql.specs.grammar.TokenKinds.{AND, OR}
 use Rattle.tt_terminal.specs.Reading.{Collected}
 use Rattle.tt_phrase.proofs.predicate.+predicates.Given as goal
 

@@ -1,8 +1,8 @@
 use Rattle.tt_terminal.proofs.Steps.{stops_first}
 use Rattle.tt_terminal.proofs.Exits.{exits, within}
 use Rattle.std.proofs.Common.{◌∙◌, arith, length-append, refl}
-use Rattle.tt_sql.specs.Marks.{column_marks}
-use Rattle.tt_sql.specs.QueryGiven.{IsAlone}
+use Rattle.tt_sql.specs.marks.Expressions.{column_marks}
+use Rattle.tt_sql.specs.determined.Queries.{IsAlone}
 use Rattle.tt_phrase.proofs.GivenTrees.{each_push}
 use Rattle.tt_phrase.proofs.Lists.{list_begins, list_more, list_ends, list_fails}
 use Rattle.tt_phrase.proofs.query.columns_of.Goals as goal

@@ -1,8 +1,8 @@
 use Rattle.std.proofs.Common.{◌≡◌, ◌≤◌, length, map}
-use Rattle.tt_sql.specs.Parts.{name}
-use Rattle.tt_sql.specs.Marks.{column_marks}
-use Rattle.tt_sql.specs.Given.{Each}
-use Rattle.tt_sql.specs.QueryGiven.{IsAlone}
+use Rattle.tt_sql.specs.grammar.Combinators.{name}
+use Rattle.tt_sql.specs.marks.Expressions.{column_marks}
+use Rattle.tt_sql.specs.trees.Lists.{Each}
+use Rattle.tt_sql.specs.determined.Queries.{IsAlone}
 use Rattle.tt_phrase.proofs.Lists.{Listing}
 use Rattle.tt_phrase.proofs.query.columns_of.Given as goal
 

@@ -1,8 +1,8 @@
 use Rattle.std.proofs.Common.{◌≡◌, ◌≤◌, length, map}
-use Rattle.tt_sql.specs.Written.{key}
-use Rattle.tt_sql.specs.QueryMarks.{key_marks}
-use Rattle.tt_sql.specs.Given.{Each}
-use Rattle.tt_sql.specs.QueryGiven.{IsGivenKey}
+use Rattle.tt_sql.specs.grammar.Written.{key}
+use Rattle.tt_sql.specs.marks.Queries.{key_marks}
+use Rattle.tt_sql.specs.trees.Lists.{Each}
+use Rattle.tt_sql.specs.determined.Queries.{IsGivenKey}
 use Rattle.tt_phrase.proofs.Lists.{Listing}
 use Rattle.tt_phrase.proofs.query.keys_of.Given as goal
 

@@ -1,7 +1,7 @@
 use Rattle.std.proofs.Common.{refl}
 use Rattle.tt_terminal.proofs.Steps.{passes_both, passes_left, passes_right, passes_as, passes_word, passes_way, stops_first, stops_second, stops_left, stops_word, word_kind_is}
 use Rattle.tt_terminal.proofs.Exits.{exits, within}
-use Rattle.tt_sql.specs.QueryMarks.{key_marks}
+use Rattle.tt_sql.specs.marks.Queries.{key_marks}
 use Rattle.tt_phrase.proofs.Lists.{filled_marks}
 use Rattle.tt_phrase.proofs.query.order_of.Goals as goal
 

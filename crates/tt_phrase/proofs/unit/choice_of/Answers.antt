@@ -1,7 +1,7 @@
 use Rattle.std.proofs.Common.{[], ◌∷◌, ◌++◌, map, refl, sym, ◌∙◌, append_assoc}
-use Rattle.tt_sql.specs.Grammar.{Way}
-use Rattle.tt_sql.specs.Marks.{flag_marks, listed_marks, literal_marks, operand_marks}
-use Rattle.tt_sql.specs.MarksLaws.{marks-Between, marks-In}
+use Rattle.tt_sql.specs.grammar.Grammar.{Way}
+use Rattle.tt_sql.specs.marks.Expressions.{flag_marks, listed_marks, literal_marks, operand_marks}
+use Rattle.tt_sql.proofs.marks.Expressions.{marks-Between, marks-In}
 use Rattle.tt_terminal.proofs.Exits.{within}
 use Rattle.tt_phrase.proofs.Operands.{completes_exit}
 use Rattle.tt_terminal.proofs.Steps.{passes_as, passes_both, passes_left, passes_right, passes_word, stops_first, stops_left, stops_right, stops_second, stops_word, word_kind_is}

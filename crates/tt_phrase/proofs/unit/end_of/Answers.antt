@@ -1,7 +1,7 @@
 use Rattle.std.proofs.Common.{[], ◌∷◌, ◌++◌, refl}
-use Rattle.tt_sql.specs.Grammar.{Way}
-use Rattle.tt_sql.specs.Marks.{comparison_marks, flag_marks, operand_marks}
-use Rattle.tt_sql.specs.MarksLaws.{marks-Compare, marks-IsNull}
+use Rattle.tt_sql.specs.grammar.Grammar.{Way}
+use Rattle.tt_sql.specs.marks.Expressions.{comparison_marks, flag_marks, operand_marks}
+use Rattle.tt_sql.proofs.marks.Expressions.{marks-Compare, marks-IsNull}
 use Rattle.tt_terminal.proofs.Exits.{within}
 use Rattle.tt_phrase.proofs.Operands.{completes_exit, completes_more}
 use Rattle.tt_terminal.proofs.Steps.{passes_as, passes_both, passes_left, passes_note, passes_right, passes_word, stops_first, stops_left, stops_note, stops_right, stops_second, stops_word, word_kind_is}

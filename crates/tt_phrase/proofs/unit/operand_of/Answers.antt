@@ -1,6 +1,6 @@
 use Rattle.std.proofs.Common.{◌≡◌, false, refl}
-use Rattle.tt_sql.specs.Grammar.{is_of}
-use Rattle.tt_sql.specs.TokenKinds.{NAME, is_name}
+use Rattle.tt_sql.specs.grammar.Grammar.{is_of}
+use Rattle.tt_sql.specs.grammar.TokenKinds.{NAME, is_name}
 use Rattle.tt_terminal.specs.Reading.{IsName, first_kind}
 use Rattle.tt_terminal.proofs.Exits.{exits, within}
 use Rattle.tt_phrase.proofs.Operands.{no_operand, operand_column, operand_day, operand_literal}

@@ -1,8 +1,8 @@
 use Rattle.std.proofs.Common.{length, refl, subst}
-use Rattle.tt_sql.specs.Checks.{nowhere}
-use Rattle.tt_sql.specs.Marks.{operand_marks, unit_marks}
-use Rattle.tt_sql.specs.Read.{read_operand, unit_end}
-use Rattle.tt_sql.specs.TokenKinds.{OPEN}
+use Rattle.tt_sql.specs.grammar.Grammar.{nowhere}
+use Rattle.tt_sql.specs.marks.Expressions.{operand_marks, unit_marks}
+use Rattle.tt_sql.specs.machine.Factored.{read_operand, unit_end}
+use Rattle.tt_sql.specs.grammar.TokenKinds.{OPEN}
 use Rattle.tt_terminal.specs.declared.rest.Rest.{Rest}
 use Rattle.tt_terminal.specs.Reading.{IsWord, seen}
 use Rattle.tt_phrase.proofs.Alike.{alike_passes, alike_stops}

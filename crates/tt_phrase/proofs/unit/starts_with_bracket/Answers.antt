@@ -1,5 +1,5 @@
 use Rattle.std.proofs.Common.{[], ◌∷◌}
-use Rattle.tt_sql.specs.TokenKinds.{OPEN, STARTSWITH}
+use Rattle.tt_sql.specs.grammar.TokenKinds.{OPEN, STARTSWITH}
 use Rattle.tt_phrase.proofs.SelectReads.{begins_not, follow_last, follow_more}
 use Rattle.tt_phrase.proofs.unit.starts_with_bracket.Goals as goal
 

@@ -1,4 +1,4 @@
-use Rattle.tt_sql.specs.MarksLaws.{marks-StartsWith}
+use Rattle.tt_sql.proofs.marks.Expressions.{marks-StartsWith}
 use Rattle.tt_terminal.proofs.Exits.{exits, within}
 use Rattle.tt_terminal.proofs.Steps.{marks_are, passes_as, passes_both, stops_first, stops_second}
 use Rattle.tt_phrase.proofs.GivenTrees.{given_starts_with}

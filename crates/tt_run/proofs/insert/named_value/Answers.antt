@@ -1,7 +1,7 @@
 use Rattle.std.proofs.Common.{◌≡◌, Some, None, subst}
 use Rattle.std.specs.Prelude.{IfOk}
 use Rattle.tt_value.specs.declared.value.Value.{Value}
-use Rattle.tt_sql.specs.ChangeMeaning.{for_column}
+use Rattle.tt_sql.specs.meaning.Changes.{for_column}
 use Rattle.tt_run.proofs.AcceptedInserts.{named_cell}
 use Rattle.tt_run.proofs.insert.named_value.Goals as goal
 

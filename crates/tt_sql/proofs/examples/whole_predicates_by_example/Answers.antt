@@ -5,8 +5,8 @@ use Rattle.tt_value.specs.declared.predicate.Comparison.TheVariants.{Equal}
 use Rattle.tt_value.specs.declared.predicate.Operand.TheVariants as operand
 use Rattle.tt_value.specs.values.Order.{value_cmp}
 use Rattle.tt_value.specs.trees.Truths.{not_truth}
-use Rattle.tt_sql.specs.MeaningExamples.{scope, row_of, x, s, int, literal, compare, is_null, is_in, is_between, negation}
-use Rattle.tt_sql.proofs.ExampleLaws.{truth_of_either, truth_of_whole, unit_compare, unit_in, unit_null, unit_between, unit_not}
+use Rattle.tt_sql.specs.meaning.Examples.{scope, row_of, x, s, int, literal, compare, is_null, is_in, is_between, negation}
+use Rattle.tt_sql.proofs.meaning.Examples.{truth_of_either, truth_of_whole, unit_compare, unit_in, unit_null, unit_between, unit_not}
 use Rattle.tt_sql.proofs.examples.whole_predicates_by_example.Goals as goal
 
 abbrev one : Row

@@ -1,10 +1,10 @@
 -- The machine computes them.
 use Rattle.std.proofs.Common.{refl}
 use Rattle.tt_value.specs.calendar.Reading.{day_of, timestamp_of}
-use Rattle.tt_sql.specs.Machine.{run, step, close, close_part, enter}
-use Rattle.tt_sql.specs.Read.{read_other, read_unit}
-use Rattle.tt_sql.specs.TokenKinds.{word_kind, number_kind, text_kind, sign_kind, undoubled}
-use Rattle.tt_sql.specs.GrammarLaws.{statement_ok}
+use Rattle.tt_sql.specs.machine.Machine.{run, step, close, close_part, enter}
+use Rattle.tt_sql.specs.machine.Factored.{read_other, read_unit}
+use Rattle.tt_sql.specs.grammar.TokenKinds.{word_kind, number_kind, text_kind, sign_kind, undoubled}
+use Rattle.tt_sql.proofs.machine.Statements.{statement_ok}
 use Rattle.tt_sql.proofs.grammar_laws.statements_by_example.Goals as goal
 
 pub returns-clause-star : goal.returns-clause-star

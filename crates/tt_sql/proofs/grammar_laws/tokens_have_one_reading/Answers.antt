@@ -1,10 +1,9 @@
 -- The derivation is one, the fault is one, and where there is one there is not the other.
 use Rattle.std.proofs.Common.{[], ◌∷◌}
-use Rattle.tt_sql.specs.FaultLaws.{one_fault, no_fault}
-use Rattle.tt_sql.specs.GrammarLaws.{one_statement, lexemes_known}
-use Rattle.tt_sql.specs.QuotedLaws.{unquoted-spelling}
-use Rattle.tt_sql.specs.Written.{statement}
-use Rattle.tt_sql.specs.Read.{written_rule}
+use Rattle.tt_sql.proofs.grammar.Faults.{one_fault, no_fault}
+use Rattle.tt_sql.proofs.machine.Statements.{one_statement, lexemes_known}
+use Rattle.tt_sql.proofs.grammar.Quotes.{unquoted-spelling}
+use Rattle.tt_sql.specs.grammar.Written.{statement, written_rule}
 use Rattle.tt_sql.proofs.grammar_laws.tokens_have_one_reading.Goals as goal
 
 pub returns : goal.returns

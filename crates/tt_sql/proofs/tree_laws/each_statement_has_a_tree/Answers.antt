@@ -1,7 +1,7 @@
 -- The tree of a derivation.
-use Rattle.tt_sql.specs.LexemeFacts.{lexemes_are}
-use Rattle.tt_sql.specs.WholeStatements.{whole_statement}
-use Rattle.tt_sql.specs.WrittenGiven.{statement_given}
+use Rattle.tt_sql.proofs.grammar.Lexemes.{lexemes_are}
+use Rattle.tt_sql.proofs.trees.Statements.{whole_statement}
+use Rattle.tt_sql.proofs.determined.Statements.{statement_given}
 use Rattle.tt_sql.proofs.tree_laws.each_statement_has_a_tree.Goals as goal
 
 pub returns : goal.returns

@@ -1,7 +1,7 @@
 -- A text has a statement or a fault, and not both.
-use Rattle.tt_sql.specs.StatementOfLaws.{statement_or_fault, found_statement, found_syntax_fault, is_text_of, is_fault_of}
-use Rattle.tt_sql.specs.StatementOf.{most_levels}
-use Rattle.tt_sql.specs.WrittenGiven.{statement_given}
+use Rattle.tt_sql.proofs.text.StatementOf.{statement_or_fault, found_statement, found_syntax_fault, is_text_of, is_fault_of}
+use Rattle.tt_sql.specs.text.StatementOf.{most_levels}
+use Rattle.tt_sql.proofs.determined.Statements.{statement_given}
 use Rattle.tt_sql.proofs.tree_laws.each_text_has_a_statement_or_a_fault.Goals as goal
 
 pub returns : goal.returns

@@ -1,5 +1,5 @@
 -- An expression is read back from its marks.
-use Rattle.tt_sql.specs.TreesLaws.{one_expr, one_term, one_factor}
+use Rattle.tt_sql.proofs.machine.ExpressionTrees.{one_expr, one_term, one_factor}
 use Rattle.tt_sql.proofs.tree_laws.expressions_are_determined.Goals as goal
 
 pub returns : goal.returns

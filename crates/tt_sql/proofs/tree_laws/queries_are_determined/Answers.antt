@@ -1,5 +1,5 @@
 -- A query is read back from its marks.
-use Rattle.tt_sql.specs.QueryTreesLaws.{one_query}
+use Rattle.tt_sql.proofs.machine.QueryTrees.{one_query}
 use Rattle.tt_sql.proofs.tree_laws.queries_are_determined.Goals as goal
 
 pub returns : goal.returns

@@ -1,5 +1,5 @@
 -- A statement is read back from its marks.
-use Rattle.tt_sql.specs.StatementTreesLaws.{statement_reads, one_statement_tree}
+use Rattle.tt_sql.proofs.machine.StatementTrees.{statement_reads, one_statement_tree}
 use Rattle.tt_sql.proofs.tree_laws.statements_are_determined.Goals as goal
 
 pub returns : goal.returns

@@ -1,6 +1,6 @@
 use Rattle.std.proofs.Common.{◌≡◌, true, Some, [], sym, ap, ◌∙◌, subst}
 use Rattle.tt_history.specs.declared.reply.Refusal.TheVariants.{TableExists}
-use Rattle.tt_sql.specs.Built.{built}
+use Rattle.tt_sql.specs.trees.Built.{built}
 use Rattle.tt_plain.specs.Refusals.{refusal_over}
 use Rattle.tt_plain.specs.RefusalLaws.{created_keeps, created_exists, created_new}
 use Rattle.tt_plain.specs.TypingRefusal.{typing_refusal}

@@ -1,6 +1,6 @@
 use Rattle.std.proofs.Common.{◌≡◌, true, None, sym, ap, ◌∙◌, subst}
 use Rattle.std.specs.Option.{option_copied}
-use Rattle.tt_sql.specs.Built.{built}
+use Rattle.tt_sql.specs.trees.Built.{built}
 use Rattle.tt_sql.specs.declared.change.Dml.TheVariants as dml
 use Rattle.tt_sql.specs.declared.statement.Statement.TheVariants as statement
 use Rattle.tt_plain.specs.Refusals.{refusal_over}

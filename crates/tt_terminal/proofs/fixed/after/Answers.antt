@@ -1,5 +1,5 @@
 use Rattle.std.proofs.Common.{[]}
-use Rattle.tt_sql.specs.Parts.{one}
+use Rattle.tt_sql.specs.grammar.Combinators.{one}
 use Rattle.tt_terminal.specs.KindNumbers.{kind_number}
 use Rattle.tt_terminal.specs.Reading.{Fails, first_place}
 use Rattle.tt_terminal.proofs.Steps.{passes_last_word, no_last_word}

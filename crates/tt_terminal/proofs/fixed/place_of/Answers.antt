@@ -2,7 +2,7 @@ use Rattle.std.proofs.Common.{[], refl}
 use Rattle.tt_terminal.proofs.Steps.{passes_at, stops_here}
 use Rattle.tt_terminal.specs.Reading.{Fails, first_place}
 use Rattle.tt_terminal.specs.KindNumbers.{kind_number}
-use Rattle.tt_sql.specs.Parts.{placed}
+use Rattle.tt_sql.specs.grammar.Combinators.{placed}
 use Rattle.tt_terminal.proofs.fixed.place_of.Goals as goal
 
 pub returns-in-Some : goal.returns-in-Some

@@ -1,8 +1,8 @@
 use Rattle.std.proofs.Common.{◌≡◌, ◌∙◌, ℤ, false, [], ◌∷◌, refl, ap}
-use Rattle.tt_sql.specs.Grammar.{is_of, Meant, Said, Way}
+use Rattle.tt_sql.specs.grammar.Grammar.{is_of, Meant, Said, Way}
 use Rattle.tt_value.specs.calendar.Calendar.{day_text}
-use Rattle.tt_sql.specs.TokenKinds.{OTHER_TEXT, is_quoted}
-use Rattle.tt_sql.specs.Written.{literal}
+use Rattle.tt_sql.specs.grammar.TokenKinds.{OTHER_TEXT, is_quoted}
+use Rattle.tt_sql.specs.grammar.Written.{literal}
 use Rattle.tt_terminal.specs.Reading.{IsQuoted, Fails, first_kind, first_place}
 use Rattle.tt_terminal.proofs.Steps.{marks_are, takes_kind, placed_kind_is, passes_left, passes_right, passes_as, passes_at, passes_way, stops_here, stops_left, stops_right, stops_word}
 use Rattle.tt_terminal.proofs.Numbers.{passes_number}

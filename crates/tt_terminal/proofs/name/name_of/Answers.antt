@@ -1,7 +1,7 @@
 use Rattle.std.proofs.Common.{◌≡◌, false, [], refl}
-use Rattle.tt_sql.specs.Grammar.{is_of}
-use Rattle.tt_sql.specs.TokenKinds.{NAME, is_name}
-use Rattle.tt_sql.specs.Parts.{name}
+use Rattle.tt_sql.specs.grammar.Grammar.{is_of}
+use Rattle.tt_sql.specs.grammar.TokenKinds.{NAME, is_name}
+use Rattle.tt_sql.specs.grammar.Combinators.{name}
 use Rattle.tt_terminal.specs.Reading.{Fails, first_kind, first_place}
 use Rattle.tt_terminal.proofs.Steps.{stops_here}
 use Rattle.tt_terminal.proofs.Names.{passes_name}

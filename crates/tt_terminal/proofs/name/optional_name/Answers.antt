@@ -1,6 +1,6 @@
 use Rattle.std.proofs.Common.{◌≤◌, ℕ, List, length, All, subst, sym, ap, ◌∙◌, refl}
 use Rattle.tt_value.specs.values.Texts.{IsPrintableAscii}
-use Rattle.tt_sql.specs.TokenKinds.{upper}
+use Rattle.tt_sql.specs.grammar.TokenKinds.{upper}
 use Rattle.tt_terminal.proofs.Steps.{first_is_of}
 use Rattle.tt_terminal.proofs.Names.{name_printable, name_few, name_says}
 use Rattle.tt_terminal.proofs.name.optional_name.Goals as goal

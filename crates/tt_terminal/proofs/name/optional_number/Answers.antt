@@ -2,8 +2,8 @@ use Rattle.std.proofs.Common.{◌≡◌, ◌<◌, ◌+◌, ◌^◌, ℕ, true, m
 use Rattle.std.specs.List.{list_all}
 use Rattle.std.specs.Char.{is_ascii_digit}
 use Rattle.tt_lex.specs.Lexis.{text_of}
-use Rattle.tt_sql.specs.Grammar.{is_of}
-use Rattle.tt_sql.specs.TokenKinds.{SHORT_NUMBER, is_negative}
+use Rattle.tt_sql.specs.grammar.Grammar.{is_of}
+use Rattle.tt_sql.specs.grammar.TokenKinds.{SHORT_NUMBER, is_negative}
 use Rattle.tt_value.specs.calendar.Reading.{digits_value as number_of}
 use Rattle.tt_terminal.specs.KindNumbers.{kind_number}
 use Rattle.tt_terminal.specs.Reading.{IsOf}

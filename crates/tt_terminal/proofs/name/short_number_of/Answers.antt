@@ -1,5 +1,5 @@
 use Rattle.std.proofs.Common.{[], refl}
-use Rattle.tt_sql.specs.Parts.{short_number}
+use Rattle.tt_sql.specs.grammar.Combinators.{short_number}
 use Rattle.tt_terminal.specs.Reading.{Fails, first_place}
 use Rattle.tt_terminal.proofs.Steps.{stops_here}
 use Rattle.tt_terminal.proofs.Numbers.{passes_short}

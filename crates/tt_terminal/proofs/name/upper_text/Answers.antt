@@ -1,6 +1,6 @@
 use Rattle.std.proofs.Common.{rules, ◌≡◌, All, subst, sym}
 use Rattle.tt_value.specs.values.Texts.{IsPrintableAscii}
-use Rattle.tt_sql.specs.TokenKinds.{upper}
+use Rattle.tt_sql.specs.grammar.TokenKinds.{upper}
 use Rattle.tt_terminal.proofs.name.upper_text.Goals as goal
 
 pub from_ascii-requires-clause-plain : goal.from_ascii-requires-clause-plain

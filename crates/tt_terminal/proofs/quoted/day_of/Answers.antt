@@ -4,7 +4,7 @@ use Rattle.std.proofs.lemmas.Int.{to_z-of_z, ints}
 use Rattle.std.proofs.lemmas.Option.{none-some}
 use Rattle.tt_value.specs.calendar.Calendar.{day_text, IsDay}
 use Rattle.tt_value.specs.calendar.Reading.{day_of as day_in}
-use Rattle.tt_sql.specs.TokenKinds.{unquoted}
+use Rattle.tt_sql.specs.grammar.TokenKinds.{unquoted}
 use Rattle.tt_terminal.proofs.Days.{is_dated}
 use Rattle.tt_terminal.proofs.quoted.day_of.Goals as goal
 

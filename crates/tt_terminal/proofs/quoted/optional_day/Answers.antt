@@ -2,8 +2,8 @@ use Rattle.std.proofs.Common.{◌≡◌, ◌≤◌, ◌∙◌, ℕ, true, List, 
 use Rattle.std.specs.Str.{IsUtf8}
 use Rattle.std.proofs.lemmas.Int.{to_z-of_z, ints}
 use Rattle.tt_value.specs.calendar.Calendar.{IsDay}
-use Rattle.tt_sql.specs.Grammar.{is_of}
-use Rattle.tt_sql.specs.TokenKinds.{OTHER_TEXT, DATE_TEXT, is_quoted, unquoted, text_kind}
+use Rattle.tt_sql.specs.grammar.Grammar.{is_of}
+use Rattle.tt_sql.specs.grammar.TokenKinds.{OTHER_TEXT, DATE_TEXT, is_quoted, unquoted, text_kind}
 use Rattle.tt_terminal.specs.KindNumbers.{kind_number}
 use Rattle.tt_terminal.proofs.Steps.{first_is_of}
 use Rattle.tt_terminal.proofs.Quotes.{quoted_length, quoted_valid, quoted_says, quoted_kind_is}

@@ -1,7 +1,7 @@
 use Rattle.std.proofs.Common.{◌≤◌, ℕ, List, length, subst, sym, ap, ◌∙◌, refl}
 use Rattle.std.specs.Str.{IsUtf8}
 use Rattle.tt_value.specs.values.Texts.{IsText}
-use Rattle.tt_sql.specs.TokenKinds.{unquoted}
+use Rattle.tt_sql.specs.grammar.TokenKinds.{unquoted}
 use Rattle.tt_terminal.proofs.Steps.{first_is_of}
 use Rattle.tt_terminal.proofs.Quotes.{quoted_plain, quoted_length, quoted_valid, quoted_says}
 use Rattle.tt_terminal.proofs.quoted.optional_quoted.Goals as goal

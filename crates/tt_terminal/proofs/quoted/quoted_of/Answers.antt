@@ -1,7 +1,7 @@
 use Rattle.std.proofs.Common.{◌≡◌, false, [], refl}
-use Rattle.tt_sql.specs.Grammar.{is_of}
-use Rattle.tt_sql.specs.TokenKinds.{OTHER_TEXT, is_quoted}
-use Rattle.tt_sql.specs.Parts.{quoted}
+use Rattle.tt_sql.specs.grammar.Grammar.{is_of}
+use Rattle.tt_sql.specs.grammar.TokenKinds.{OTHER_TEXT, is_quoted}
+use Rattle.tt_sql.specs.grammar.Combinators.{quoted}
 use Rattle.tt_terminal.specs.Reading.{Fails, first_kind, first_place}
 use Rattle.tt_terminal.proofs.Steps.{stops_here}
 use Rattle.tt_terminal.proofs.Quotes.{passes_quoted}

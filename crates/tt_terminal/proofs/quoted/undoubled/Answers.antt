@@ -1,5 +1,5 @@
 use Rattle.std.proofs.Common.{◌≡◌, ◌++◌, false, drop, subst}
-use Rattle.tt_sql.specs.TokenKinds.{undoubled}
+use Rattle.tt_sql.specs.grammar.TokenKinds.{undoubled}
 use Rattle.tt_terminal.proofs.Quotes.{at_end, after_second, after_first}
 use Rattle.tt_terminal.proofs.quoted.undoubled.Goals as goal
 use Rattle.tt_terminal.proofs.quoted.undoubled.Goals.{then-second, else-second+in_ok-push}

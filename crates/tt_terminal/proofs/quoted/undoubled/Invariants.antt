@@ -1,5 +1,5 @@
 use Rattle.std.proofs.Common.{◌≡◌, ◌++◌, false, drop}
-use Rattle.tt_sql.specs.TokenKinds.{undoubled}
+use Rattle.tt_sql.specs.grammar.TokenKinds.{undoubled}
 use Rattle.tt_terminal.proofs.quoted.undoubled.Given as goal
 
 abbrev pub invariant-loop-byte : goal.invariant-loop-byte

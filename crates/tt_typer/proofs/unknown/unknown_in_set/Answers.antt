@@ -1,5 +1,5 @@
 use Rattle.std.proofs.Common.{sym}
-use Rattle.tt_sql.specs.Scopes.{target_scope}
+use Rattle.tt_sql.specs.meaning.Scopes.{target_scope}
 use Rattle.tt_plain.specs.UnknownColumns.{unknown_among, unknown_in_expr}
 use Rattle.tt_typer.specs.TableScopes.{scope_in}
 use Rattle.tt_typer.proofs.Leftmost.{leftmost_append}

@@ -1,0 +1,3 @@
+-- Trees that their marks determine.
+pub mod Expressions
+pub mod Statements

@@ -1,0 +1,2 @@
+-- What a derivation notes of a tree.
+pub mod Expressions

@@ -1,0 +1,2 @@
+-- What queries and changes mean.
+pub mod Examples

@@ -1,0 +1,4 @@
+-- Trees that their marks determine.
+pub mod Expressions
+pub mod Queries
+pub mod Statements

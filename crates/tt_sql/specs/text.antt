@@ -1,0 +1,2 @@
+-- The statement of a text.
+pub mod StatementOf

@@ -1,0 +1,7 @@
+-- Which trees the grammar gives.
+pub mod Built
+pub mod Expressions
+pub mod Leaves
+pub mod Lists
+pub mod Queries
+pub mod Statements
