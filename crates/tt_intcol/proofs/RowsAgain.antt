@@ -1,5 +1,5 @@
 -- The column of some rows is read as these rows.
-use Rattle.std.proofs.Common.{◌≡◌, ℕ, suc, ℤ, pos, negsuc, ◌+ℤ◌, ◌≤ℤ◌, ◌+◌, ◌-◌, ◌%◌, ◌/◌, ◌^◌, ◌≤◌, ◌<◌, Bool, true, false, cond, ltb, ◌&&◌, ◌||◌, List, [], ◌∷◌, ◌++◌, length, take, map, max, get_or, Option, Ok, Err, refl, sym, ap, subst, ◌∙◌, append_assoc, eq-eqb, arith, ◌⊎◌, inl, inr}
+use Rattle.std.proofs.Common.{◌≡◌, ℕ, suc, ℤ, pos, negsuc, ◌+ℤ◌, ◌≤ℤ◌, ◌+◌, ◌-◌, ◌%◌, ◌/◌, ◌^◌, ◌≤◌, ◌<◌, Bool, true, false, cond, ltb, ◌&&◌, ◌||◌, List, [], ◌∷◌, ◌++◌, length, take, map, max, get_or, Option, Ok, refl, sym, ap, subst, ◌∙◌, append_assoc, eq-eqb, arith, ◌⊎◌, inl, inr}
 use Rattle.std.specs.Prelude.{◌==◌, fold}
 use Rattle.std.specs.List.{AllByRecursion, list_any, list_all}
 use Rattle.std.specs.Int.{w8, w32, w64, to_le_bytes, cast_unsigned, cast_signed, int_min}
@@ -23,7 +23,7 @@ use Rattle.tt_intcol.proofs.FrameLaws.{frame_read}
 use Rattle.tt_intcol.specs.declared.encoding.Encoding.{Encoding}
 use Rattle.tt_intcol.specs.declared.encoding.Encoding.TheVariants.{Plain, Frame, Run, Dictionary}
 use Rattle.tt_intcol.specs.IntBody.{value_bytes, IsDay, IsValue, least_of, height, greatest_of, frame_body, body, code, encoding_of, column_of}
-use Rattle.tt_intcol.specs.IntReading.{is_day, date_at, int_at, value_at, top_of, is_within, is_frame, frame_at, body_at, encoding_at, values_in, rows_of}
+use Rattle.tt_intcol.specs.IntReading.{is_day, date_at, int_at, value_at, top_of, is_within, is_frame, frame_at, body_at, encoding_at, is_empty_frame, whole_body, values_in, rows_of}
 
 unsigned_below : (v : ℤ) → FitsSigned w64 v → cast_unsigned w64 v < 2 ^ 64
 unsigned_below v fits = omega (arith, ints)
@@ -174,8 +174,7 @@ frame_again kind x xs valid end rest =
 body_again : (kind : Kind) (vs : List ℤ) (e : Encoding) → AllByRecursion (IsValue kind) vs → length vs < 2 ^ 32 → (vs ≡ [] → e ≡ Frame → ⊥) → (end : ℕ) → body_at kind e end (length vs) (body kind vs e ++ []) ≡ Ok (vs, [])
 body_again kind vs Plain valid few framed end = values_again (value_bytes kind) (value_at kind) int_cmp (IsValue kind) (value_again kind) vs valid end []
 body_again kind [] Frame valid few framed end = absurd (framed refl refl)
-body_again kind (x ∷ xs) Frame valid few framed end =
-    ap (λ b. cond b (Err 0) (frame_at kind end (suc (length xs)) (frame_body kind (x ∷ xs) ++ []))) (not_zero (length xs)) ∙ frame_again kind x xs valid end []
+body_again kind (x ∷ xs) Frame valid few framed end = frame_again kind x xs valid end []
 body_again kind vs Run valid few framed end = run_values_again (value_bytes kind) (value_at kind) int_cmp (IsValue kind) (value_again kind) int_cmp_total exact_signed vs valid few end []
 body_again kind vs Dictionary valid few framed end = dictionary_values_again (value_bytes kind) (value_at kind) int_cmp (IsValue kind) (value_again kind) int_cmp_total exact_signed vs valid few end []
 
@@ -197,12 +196,25 @@ encoding_again Frame = refl
 encoding_again Run = refl
 encoding_again Dictionary = refl
 
+whole_again : (kind : Kind) (vs : List ℤ) (e : Encoding) → AllByRecursion (IsValue kind) vs → length vs < 2 ^ 32 → (vs ≡ [] → e ≡ Frame → ⊥) → (end : ℕ) → whole_body kind e end (length vs) (body kind vs e) ≡ Ok vs
+unfolding whole_body
+whole_again kind vs e valid few framed end =
+    let read : body_at kind e end (length vs) (body kind vs e) ≡ Ok (vs, []) = ap (body_at kind e end (length vs)) (sym (append-nil (body kind vs e))) ∙ body_again kind vs e valid few framed end in
+    rw read refl
+
+is_filled : (vs : List ℤ) (e : Encoding) → (vs ≡ [] → e ≡ Frame → ⊥) → is_empty_frame e (length vs) ≡ false
+is_filled vs Plain framed = refl
+is_filled [] Frame framed = absurd (framed refl refl)
+is_filled (x ∷ xs) Frame framed = not_zero (length xs)
+is_filled vs Run framed = refl
+is_filled vs Dictionary framed = refl
+
 values_in_again : (kind : Kind) (vs : List ℤ) → AllByRecursion (IsValue kind) vs → length vs < 2 ^ 32 → (end : ℕ) → values_in kind (encoding_of kind vs) end (length vs) (body kind vs (encoding_of kind vs)) ≡ Ok vs
 unfolding values_in
 values_in_again kind vs valid few end =
     let e : Encoding = encoding_of kind vs in
-    let read : body_at kind e end (length vs) (body kind vs e) ≡ Ok (vs, []) = ap (body_at kind e end (length vs)) (sym (append-nil (body kind vs e))) ∙ body_again kind vs e valid few (no_frame kind vs) end in
-    rw (read, eq-eqb (code e) (code e) refl) refl
+    let filled : is_empty_frame e (length vs) ≡ false = is_filled vs e (no_frame kind vs) in
+    rw (filled, whole_again kind vs e valid few (no_frame kind vs) end, eq-eqb (code e) (code e) refl) refl
 
 pub rows_again : (kind : Kind) (rows : List (Option ℤ)) → AllByRecursion (IsValue kind) (present rows) → length rows < 2 ^ 32 → rows_of kind (length rows) (column_of kind rows) ≡ Ok rows
 unfolding rows_of column_of

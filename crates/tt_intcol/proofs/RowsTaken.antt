@@ -1,5 +1,5 @@
 -- Each column that is read is the column of the rows that it gives.
-use Rattle.std.proofs.Common.{◌≡◌, ℕ, zero, suc, ℤ, pos, ◌+ℤ◌, ◌≤ℤ◌, ◌+◌, ◌-◌, ◌^◌, ◌<◌, Bool, true, false, ltb, ◌&&◌, ◌||◌, List, [], ◌∷◌, ◌++◌, length, take, drop, map, Option, Result, Ok, Err, refl, sym, ap, subst, ◌∙◌, append_assoc, length-append, arith, ◌⊎◌, inl, inr}
+use Rattle.std.proofs.Common.{◌≡◌, ℕ, zero, suc, ℤ, pos, ◌+ℤ◌, ◌≤ℤ◌, ◌+◌, ◌-◌, ◌^◌, ◌<◌, Bool, true, false, not, ltb, ◌&&◌, ◌||◌, List, [], ◌∷◌, ◌++◌, length, take, drop, map, Option, Result, Ok, Err, refl, sym, ap, subst, ◌∙◌, append_assoc, length-append, arith, ◌⊎◌, inl, inr}
 use Rattle.std.specs.Prelude.{◌==◌, fold, IfOk, All}
 use Rattle.std.specs.List.{AllByRecursion, list_any, list_all}
 use Rattle.std.specs.Int.{w8, w32, w64, to_le_bytes, from_le_bytes, cast_unsigned, cast_signed, int_min}
@@ -14,16 +14,16 @@ use Rattle.tt_value.specs.declared.value.Kind.{Kind}
 use Rattle.tt_value.specs.declared.value.Kind.TheVariants.{Int, Date, Varchar}
 use Rattle.tt_value.specs.columns.Packing.{packed, width_of}
 use Rattle.tt_value.specs.columns.Body.{word, present, has_null, bitmap_of}
-use Rattle.tt_value.specs.columns.Reading.{◌>>=◌, checked, number_at, packed_at, ended, flags_at, present_count, spread}
+use Rattle.tt_value.specs.columns.Reading.{◌>>=◌, checked, at_encoding, is_longer, in_column, number_at, packed_at, ended, flags_at, present_count, spread}
 use Rattle.tt_value.proofs.columns.Packing.{Fit}
-use Rattle.tt_value.proofs.columns.Accepted.{same_ok, bound, held, enough, fit_rest, word_taken, long_taken, packed_taken, ended_taken, values_taken, run_values_taken, dictionary_values_taken, rows_taken}
+use Rattle.tt_value.proofs.columns.Accepted.{same_ok, bound, held, in_column_taken, enough, fit_rest, word_taken, long_taken, packed_taken, ended_taken, values_taken, run_values_taken, dictionary_values_taken, rows_taken}
 use Rattle.tt_intcol.proofs.RowsAgain.{low_bytes, day_mod, fits_all}
 use Rattle.tt_intcol.specs.declared.encoding.Encoding.{Encoding}
 use Rattle.tt_intcol.specs.declared.encoding.Encoding.TheVariants.{Plain, Frame, Run, Dictionary}
 use Rattle.tt_intcol.specs.declared.column.IntColumn.{IntColumn}
 use Rattle.tt_intcol.specs.declared.column.DecodeError.{DecodeError}
 use Rattle.tt_intcol.specs.IntBody.{value_bytes, IsDay, IsValue, least_of, height, greatest_of, frame_body, body, code, encoding_of, column_of}
-use Rattle.tt_intcol.specs.IntReading.{Gives, is_day, date_at, int_at, value_at, is_within, is_frame, frame_at, body_at, encoding_at, values_in, rows_of}
+use Rattle.tt_intcol.specs.IntReading.{Gives, is_day, date_at, int_at, value_at, is_within, is_frame, frame_at, body_at, encoding_at, is_empty_frame, whole_body, values_in, column_with, rows_of}
 
 -- ---- values
 
@@ -203,7 +203,7 @@ frame_taken kind end count bs x fit e =
 
 body_taken : (kind : Kind) (e : Encoding) (end count : ℕ) (bs : List ℕ) (x : List ℤ × List ℕ) → Fit 8 bs → body_at kind e end count bs ≡ Ok x → AreValues kind e count bs x
 body_taken kind Plain end count bs x fit h = values_taken (value_bytes kind) (value_at kind) int_cmp (IsValue kind) (value_taken kind) end count bs x fit h
-body_taken kind Frame end count bs x fit h = frame_taken kind end count bs x fit (enough (count == 0) 0 (frame_at kind end count bs) x h).1
+body_taken kind Frame end count bs x fit h = frame_taken kind end count bs x fit h
 body_taken kind Run end count bs x fit h = run_values_taken (value_bytes kind) (value_at kind) int_cmp (IsValue kind) (value_taken kind) int_cmp_total exact_signed end count bs x fit h
 body_taken kind Dictionary end count bs x fit h = dictionary_values_taken (value_bytes kind) (value_at kind) int_cmp (IsValue kind) (value_taken kind) int_cmp_total exact_signed end count bs x fit h
 
@@ -212,6 +212,16 @@ pub body_length : (kind : Kind) (e : Encoding) (end count : ℕ) (bs : List ℕ)
 body_length kind e end count bs x bytes h none =
     let are = body_taken kind e end count bs x (fits_all 8 bs (λ k lt. bytes k 0 lt)) h in
     ap length are.0 ∙ length-append (body kind x.0 e) x.1 ∙ omega arith
+
+whole_taken : (kind : Kind) (e : Encoding) (end count : ℕ) (bs : List ℕ) (vs : List ℤ) → Fit 8 bs → whole_body kind e end count bs ≡ Ok vs → (bs ≡ body kind vs e) × (length vs ≡ count) × AllByRecursion (IsValue kind) vs
+unfolding whole_body
+whole_taken kind e end count bs vs fit h =
+    let one = bound (body_at kind e end count bs) (λ read. ended end read) vs h in
+    let read : List ℤ × List ℕ = one.0 in
+    let last = ended_taken end read vs one.2 in
+    let are = body_taken kind e end count bs read fit one.1 in
+    let all : bs ≡ body kind read.0 e = are.0 ∙ ap (λ (t : List ℕ). body kind read.0 e ++ t) last.0 ∙ append-nil (body kind read.0 e) in
+    (all ∙ ap (λ (t : List ℤ). body kind t e) last.1, ap length (sym last.1) ∙ are.1, subst (λ (t : List ℤ). AllByRecursion (IsValue kind) t) last.1 are.2)
 
 same_code : (d e : Encoding) → code d ≡ code e → d ≡ e
 same_code Plain Plain h = refl
@@ -224,17 +234,20 @@ values_in_taken : (kind : Kind) (e : Encoding) (end count : ℕ) (bs : List ℕ)
     → (e ≡ encoding_of kind vs) × (bs ≡ body kind vs (encoding_of kind vs)) × (length vs ≡ count) × AllByRecursion (IsValue kind) vs
 unfolding values_in
 values_in_taken kind e end count bs vs fit h =
-    let one = bound (body_at kind e end count bs) (λ read. ended end read >>= λ us. checked (code (encoding_of kind us) == code e) 0 us) vs h in
-    let read : List ℤ × List ℕ = one.0 in
-    let two = bound (ended end read) (λ us. checked (code (encoding_of kind us) == code e) 0 us) vs one.2 in
-    let us : List ℤ = two.0 in
-    let last = ended_taken end read us two.1 in
-    let ruled = held (code (encoding_of kind us) == code e) 0 us vs two.2 in
-    let are = body_taken kind e end count bs read fit one.1 in
-    let shortest : e ≡ encoding_of kind us = sym (same_code (encoding_of kind us) e (eqb-true (code (encoding_of kind us)) (code e) ruled.0)) in
-    let all : bs ≡ body kind read.0 e = are.0 ∙ ap (λ (t : List ℕ). body kind read.0 e ++ t) last.0 ∙ append-nil (body kind read.0 e) in
-    subst (λ (vs : List ℤ). (e ≡ encoding_of kind vs) × (bs ≡ body kind vs (encoding_of kind vs)) × (length vs ≡ count) × AllByRecursion (IsValue kind) vs) ruled.1
-    (shortest, all ∙ ap (λ (t : List ℤ). body kind t e) last.1 ∙ ap (body kind us) shortest, ap length (sym last.1) ∙ are.1, subst (λ (t : List ℤ). AllByRecursion (IsValue kind) t) last.1 are.2)
+    let form = bound (checked (not (is_empty_frame e count)) at_encoding e) (λ f. in_column (whole_body kind f end count bs) >>= λ us. checked (code (encoding_of kind us) == code f) is_longer us) vs h in
+    let kept = held (not (is_empty_frame e count)) at_encoding e form.0 form.1 in
+    whole_values kind e end count bs vs fit (subst (λ (f : Encoding). (in_column (whole_body kind f end count bs) >>= λ us. checked (code (encoding_of kind us) == code f) is_longer us) ≡ Ok vs) (sym kept.1) form.2)
+  where
+    whole_values : (kind : Kind) (e : Encoding) (end count : ℕ) (bs : List ℕ) (vs : List ℤ) → Fit 8 bs → (in_column (whole_body kind e end count bs) >>= λ us. checked (code (encoding_of kind us) == code e) is_longer us) ≡ Ok vs
+        → (e ≡ encoding_of kind vs) × (bs ≡ body kind vs (encoding_of kind vs)) × (length vs ≡ count) × AllByRecursion (IsValue kind) vs
+    whole_values kind e end count bs vs fit h =
+        let one = bound (in_column (whole_body kind e end count bs)) (λ us. checked (code (encoding_of kind us) == code e) is_longer us) vs h in
+        let us : List ℤ = one.0 in
+        let are = whole_taken kind e end count bs us fit (in_column_taken (whole_body kind e end count bs) us one.1) in
+        let ruled = held (code (encoding_of kind us) == code e) is_longer us vs one.2 in
+        let shortest : e ≡ encoding_of kind us = sym (same_code (encoding_of kind us) e (eqb-true (code (encoding_of kind us)) (code e) ruled.0)) in
+        subst (λ (vs : List ℤ). (e ≡ encoding_of kind vs) × (bs ≡ body kind vs (encoding_of kind vs)) × (length vs ≡ count) × AllByRecursion (IsValue kind) vs) ruled.1
+        (shortest, are.0 ∙ ap (body kind us) shortest, are.1, are.2)
 
 encoding_taken : (n : ℕ) (e : Encoding) → encoding_at n ≡ Ok e → n ≡ code e
 encoding_taken zero e h = ap code (same_ok Plain e h)
@@ -251,14 +264,14 @@ pub rows_are : (kind : Kind) (rows : ℕ) (column : IntColumn) (vs : List (Optio
 unfolding rows_of column_of
 rows_are kind rows column vs fit_bitmap fit_body h =
     let end : ℕ = length column.bitmap + length column.body in
-    let one = bound (encoding_at column.encoding) (λ e. flags_at rows column.nulls column.bitmap >>= λ flags. values_in kind e end (present_count flags) column.body >>= λ us. Ok (spread flags us)) vs h in
+    let one = bound (encoding_at column.encoding) (λ e. in_column (flags_at rows column.nulls column.bitmap) >>= λ flags. values_in kind e end (present_count flags) column.body >>= λ us. Ok (spread flags us)) vs h in
     let e : Encoding = one.0 in
-    let two = bound (flags_at rows column.nulls column.bitmap) (λ flags. values_in kind e end (present_count flags) column.body >>= λ us. Ok (spread flags us)) vs one.2 in
+    let two = bound (in_column (flags_at rows column.nulls column.bitmap)) (λ flags. values_in kind e end (present_count flags) column.body >>= λ us. Ok (spread flags us)) vs one.2 in
     let flags : List ℕ = two.0 in
     let three = bound (values_in kind e end (present_count flags) column.body) (λ us. Ok (spread flags us)) vs two.2 in
     let us : List ℤ = three.0 in
     let are = values_in_taken kind e end (present_count flags) column.body us fit_body three.1 in
-    let back = rows_taken rows column.nulls column.bitmap flags us fit_bitmap two.1 are.2 in
+    let back = rows_taken rows column.nulls column.bitmap flags us fit_bitmap (in_column_taken (flags_at rows column.nulls column.bitmap) flags two.1) are.2 in
     let same : column ≡ column_of kind (spread flags us)
     = same_column column (code (encoding_of kind us)) (has_null (spread flags us)) (bitmap_of (spread flags us)) (body kind us (encoding_of kind us)) (encoding_taken column.encoding e one.1 ∙ ap code are.0) back.1 back.0 are.1
     ∙ ap (λ (t : List ℤ). record { encoding = code (encoding_of kind t); nulls = has_null (spread flags us); bitmap = bitmap_of (spread flags us); body = body kind t (encoding_of kind t) }) (sym back.2) in
@@ -267,13 +280,20 @@ rows_are kind rows column vs fit_bitmap fit_body h =
 
 -- ---- what a function that read a column returned
 
+-- what was read of the bytes of a column was read of the column
+pub same_given : {X : Type 0} (view : X → List (Option ℤ)) (result : Result X DecodeError) (kind : Kind) (rows : ℕ) (column : IntColumn) (bitmap body : List ℕ) → bitmap ≡ column.bitmap → body ≡ column.body
+    → Gives view result (rows_of kind rows (column_with column.encoding column.nulls bitmap body)) → Gives view result (rows_of kind rows column)
+same_given view result kind rows column bitmap body e f h =
+    subst (λ (bs : List ℕ). Gives view result (rows_of kind rows (column_with column.encoding column.nulls column.bitmap bs))) f
+    (subst (λ (bs : List ℕ). Gives view result (rows_of kind rows (column_with column.encoding column.nulls bs body))) e h)
+
 abbrev pub IsColumnOf : Kind → ℕ → IntColumn → List (Option ℤ) → Type 0
 IsColumnOf kind rows column vs = (column ≡ column_of kind vs) × (length vs ≡ rows) × AllByRecursion (IsValue kind) (present vs)
 
-pub if_read : {X : Type 0} (view : X → List (Option ℤ)) (result : Result X DecodeError) (kind : Kind) (rows : ℕ) (column : IntColumn) → Gives view result (rows_of kind rows column)
-    → IfOk result (λ x. All (λ byte. byte < 256) column.bitmap) → IfOk result (λ x. All (λ byte. byte < 256) column.body) → IfOk result (λ x. IsColumnOf kind rows column (view x))
-if_read view (Ok x) kind rows column gives p q = rows_are kind rows column (view x) (fits_all 8 column.bitmap (λ k lt. p k 0 lt)) (fits_all 8 column.body (λ k lt. q k 0 lt)) gives
-if_read view (Err e) kind rows column gives p q = tt
+pub if_read : {X : Type 0} (view : X → List (Option ℤ)) (result : Result X DecodeError) (kind : Kind) (rows : ℕ) (column : IntColumn) → All (λ byte. byte < 256) column.bitmap → All (λ byte. byte < 256) column.body
+    → Gives view result (rows_of kind rows column) → IfOk result (λ x. IsColumnOf kind rows column (view x))
+if_read view (Ok x) kind rows column p q gives = rows_are kind rows column (view x) (fits_all 8 column.bitmap (λ k lt. p k 0 lt)) (fits_all 8 column.body (λ k lt. q k 0 lt)) gives
+if_read view (Err e) kind rows column p q gives = tt
 
 pub if_follows : {X E : Type 0} (result : Result X E) (P Q : X → Type 0) → IfOk result P → ((x : X) → P x → Q x) → IfOk result Q
 if_follows (Ok x) P Q h f = f x h

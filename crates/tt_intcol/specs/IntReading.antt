@@ -1,5 +1,5 @@
 -- Reading a column of numbers, with the place of the first fault.
-use Rattle.std.specs.Prelude.{◌≡◌, ℕ, zero, suc, ◌+◌, ◌-◌, ℤ, pos, ◌+ℤ◌, Bool, ◌&&◌, ◌==◌, if◌then◌else◌, List, length, map, Option, Result, Ok, Err}
+use Rattle.std.specs.Prelude.{◌≡◌, ℕ, zero, suc, ◌+◌, ◌-◌, ℤ, pos, ◌+ℤ◌, Bool, false, not, ◌&&◌, ◌==◌, List, length, map, Option, Result, Ok, Err}
 use Rattle.std.specs.List.{list_any, list_all}
 use Rattle.std.specs.Int.{w32, w64, w8, cast_signed}
 use Rattle.std.specs.Int.RustNames.{int_le}
@@ -7,22 +7,39 @@ use Rattle.std.specs.Ordering.{int_cmp}
 use Rattle.tt_value.specs.declared.value.Kind.{Kind}
 use Rattle.tt_value.specs.declared.value.Kind.TheVariants.{Date}
 use Rattle.tt_value.specs.columns.Packing.{width_of}
-use Rattle.tt_value.specs.columns.Reading.{◌>>=◌, checked, number_at, packed_at, values_at, run_values_at, dictionary_values_at, ended, flags_at, present_count, spread}
+use Rattle.tt_value.specs.columns.Reading.{◌>>=◌, checked, at_byte, at_encoding, is_longer, in_column, number_at, packed_at, values_at, run_values_at, dictionary_values_at, ended, flags_at, present_count, spread}
+use Rattle.tt_value.specs.declared.column.BadColumn.{BadColumn}
 use Rattle.tt_intcol.specs.declared.encoding.Encoding.{Encoding}
 use Rattle.tt_intcol.specs.declared.encoding.Encoding.TheVariants.{Plain, Frame, Run, Dictionary}
 use Rattle.tt_intcol.specs.declared.column.IntColumn.{IntColumn}
 use Rattle.tt_intcol.specs.declared.column.DecodeError.{DecodeError}
 use Rattle.tt_intcol.specs.declared.column.DecodeError.TheVariants as errors
+use Rattle.tt_intcol.specs.declared.parts.PartError.{PartError}
+use Rattle.tt_intcol.specs.declared.parts.PartError.TheVariants as part_errors
 use Rattle.tt_intcol.specs.IntBody.{first_day, last_day, greatest_of, code, encoding_of}
 
--- What a function returned, seen by view, is what reading gives, unless memory ran out.
-abbrev pub Fails : {Y : Type 0} → DecodeError → Result Y ℕ → Type 0
-Fails errors.Memory read = Unit {0}
-Fails (errors.BadColumn bad) read = read ≡ Err bad.place
+-- What a function returned of a part, seen by view, is what reading gives, unless memory ran out.
+abbrev pub FailsPart : {Y : Type 0} → PartError → Result Y ℕ → Type 0
+FailsPart part_errors.Memory read = Unit {0}
+FailsPart (part_errors.At place) read = read ≡ Err place
 
-abbrev pub Gives : {X Y : Type 0} → (X → Y) → Result X DecodeError → Result Y ℕ → Type 0
+abbrev pub GivesPart : {X Y : Type 0} → (X → Y) → Result X PartError → Result Y ℕ → Type 0
+GivesPart view (Ok x) read = read ≡ Ok (view x)
+GivesPart view (Err e) read = FailsPart e read
+
+-- The same of a column, whose fault says also whether it is at the byte of the encoding.
+abbrev pub Fails : {Y : Type 0} → DecodeError → Result Y BadColumn → Type 0
+Fails errors.Memory read = Unit {0}
+Fails (errors.BadColumn bad) read = read ≡ Err bad
+
+abbrev pub Gives : {X Y : Type 0} → (X → Y) → Result X DecodeError → Result Y BadColumn → Type 0
 Gives view (Ok x) read = read ≡ Ok (view x)
 Gives view (Err e) read = Fails e read
+
+-- the fault of a part, as that of its column
+abbrev pub decode_error : PartError → DecodeError
+decode_error part_errors.Memory = errors.Memory
+decode_error (part_errors.At place) = errors.BadColumn (at_byte place)
 
 abbrev pub is_day : ℤ → Bool
 is_day v = int_le first_day v && int_le v last_day
@@ -61,31 +78,48 @@ frame_at kind end count bytes = do
   ns ← packed_at end width.0 count width.1
   checked (is_frame kind low.0 width.0 ns.0) (end - length width.1) (map (λ n. low.0 +ℤ pos n) ns.0, ns.1)
 
--- a frame of no values is a fault at the byte of the encoding
+-- the values of a body, and what stands behind its last part
 abbrev pub body_at : Kind → Encoding → ℕ → ℕ → List ℕ → Result (List ℤ × List ℕ) ℕ
 body_at kind Plain end count bytes = values_at (value_at kind) int_cmp end count bytes
-body_at kind Frame end count bytes = if count == 0 then Err 0 else frame_at kind end count bytes
+body_at kind Frame end count bytes = frame_at kind end count bytes
 body_at kind Run end count bytes = run_values_at (value_at kind) int_cmp end count bytes
 body_at kind Dictionary end count bytes = dictionary_values_at (value_at kind) int_cmp end count bytes
 
-abbrev pub encoding_at : ℕ → Result Encoding ℕ
+abbrev pub encoding_at : ℕ → Result Encoding BadColumn
 encoding_at zero = Ok Plain
 encoding_at (suc zero) = Ok Frame
 encoding_at (suc (suc zero)) = Ok Run
 encoding_at (suc (suc (suc zero))) = Ok Dictionary
-encoding_at _ = Err 0
+encoding_at _ = Err at_encoding
 
--- the values of the body, which ends behind its last part; the encoding is the shortest
-unfoldable pub values_in : Kind → Encoding → ℕ → ℕ → List ℕ → Result (List ℤ) ℕ
-values_in kind e end count bytes = do
+-- there is no frame of no values
+abbrev pub is_empty_frame : Encoding → ℕ → Bool
+is_empty_frame Plain count = false
+is_empty_frame Frame count = count == 0
+is_empty_frame Run count = false
+is_empty_frame Dictionary count = false
+
+-- the values of a body that ends behind its last part
+unfoldable pub whole_body : Kind → Encoding → ℕ → ℕ → List ℕ → Result (List ℤ) ℕ
+whole_body kind e end count bytes = do
   read ← body_at kind e end count bytes
-  vs ← ended end read
-  checked (code (encoding_of kind vs) == code e) 0 vs
+  ended end read
+
+-- the values of the body, where its form is one that so many values may have, and the shortest
+unfoldable pub values_in : Kind → Encoding → ℕ → ℕ → List ℕ → Result (List ℤ) BadColumn
+values_in kind e end count bytes = do
+  form ← checked (not (is_empty_frame e count)) at_encoding e
+  vs ← in_column (whole_body kind form end count bytes)
+  checked (code (encoding_of kind vs) == code form) is_longer vs
+
+-- a column of these bytes
+abbrev pub column_with : ℕ → Bool → List ℕ → List ℕ → IntColumn
+column_with encoding nulls bitmap body = record { encoding = encoding; nulls = nulls; bitmap = bitmap; body = body }
 
 -- the encoding, then the bitmap, then the body
-unfoldable pub rows_of : Kind → ℕ → IntColumn → Result (List (Option ℤ)) ℕ
+unfoldable pub rows_of : Kind → ℕ → IntColumn → Result (List (Option ℤ)) BadColumn
 rows_of kind rows column = do
   e ← encoding_at column.encoding
-  flags ← flags_at rows column.nulls column.bitmap
+  flags ← in_column (flags_at rows column.nulls column.bitmap)
   vs ← values_in kind e (length column.bitmap + length column.body) (present_count flags) column.body
   Ok (spread flags vs)

@@ -1,8 +1,10 @@
+//! The forms of a body.
+
 ghost use Rattle.std.specs.Prelude.{◌≡◌};
 ghost use Rattle.tt_intcol.specs.IntBody.{code as code_of};
 
 /// The four forms of a body, by their codes.
-#[derive(Clone, Copy, Debug, PartialEq, Eq)]
+#[derive(Clone, Copy, PartialEq, Eq)]
 pub enum Encoding {
     Plain,
     Frame,

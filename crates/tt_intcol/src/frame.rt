@@ -5,10 +5,9 @@ ghost use Rattle.std.specs.List.{list_any, list_all};
 ghost use Rattle.std.specs.Int.RustNames.{int_le};
 ghost use Rattle.tt_value.specs.columns.Packing.{bytes_for, width_of};
 ghost use Rattle.tt_intcol.specs.IntBody.{greatest_of};
-ghost use Rattle.tt_intcol.specs.IntReading.{Gives, frame_at, top_of as top_value, is_within, is_frame};
+ghost use Rattle.tt_intcol.specs.IntReading.{GivesPart, frame_at, top_of as top_value, is_within, is_frame};
 
-use crate::column::DecodeError;
-use crate::parts::{LAST_DAY, bad, place, read_byte, read_value};
+use crate::parts::{LAST_DAY, PartError, bad, place, read_byte, read_value};
 use crate::reading::{packed_size, read_packed};
 use std::alloc::{AllocError, Global};
 use tt_value::{Kind, packing};
@@ -93,8 +92,8 @@ fn frame_values(
 }
 
 /// The fault of packed numbers that are wider than any difference.
-fn too_wide(end: u64, width: u8, count: usize, bytes: &[u8]) -> DecodeError
-    ensures { result ≡ DecodeError.BadColumn (record { place = if nat_lt (length bytes.now) (bytes_for (count * width)) then end else end - length bytes.now }) }
+fn too_wide(end: u64, width: u8, count: usize, bytes: &[u8]) -> PartError
+    ensures { result ≡ PartError.At (if nat_lt (length bytes.now) (bytes_for (count * width)) then end else end - length bytes.now) }
 {
     if (bytes.len() as u128) < packed_size(count, u32::from(width)) {
         bad(end)
@@ -111,8 +110,8 @@ pub fn read_frame(
     end: u64,
     count: usize,
     bytes: &[u8],
-) -> Result<(Vec<i64>, &[u8]), DecodeError>
-    ensures { Gives (λ x. (x.0.items, x.1.now)) result (frame_at kind end count bytes.now) }
+) -> Result<(Vec<i64>, &[u8]), PartError>
+    ensures { GivesPart (λ x. (x.0.items, x.1.now)) result (frame_at kind end count bytes.now) }
 {
     let (low, rest) = read_value(kind, end, bytes)?;
     let (width, rest) = read_byte(end, rest)?;

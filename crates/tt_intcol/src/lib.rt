@@ -11,9 +11,7 @@ mod reading;
 mod rows;
 mod writing;
 
-pub use column::{BadColumn, DecodeError, EncodeError, IntColumn};
-pub use rows::decode;
+pub use column::{DecodeError, EncodeError, IntColumn};
+pub use rows::{decode, decode_parts};
+pub use tt_value::{BadColumn, FaultAt};
 pub use writing::encode;
-
-#[cfg(test)]
-mod tests;

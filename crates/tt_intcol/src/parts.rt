@@ -3,10 +3,10 @@
 ghost use Rattle.std.specs.Prelude.{◌≡◌, ◌+◌, ◌-◌, ◌^◌, ◌<◌, ◌≤◌, length, All, Ok, Err};
 ghost use Rattle.std.specs.Int.{w8, w32, w64};
 ghost use Rattle.tt_value.specs.columns.Reading.{number_at, packed_at, count_at};
-ghost use Rattle.tt_intcol.specs.IntReading.{Gives, value_at, int_at, date_at, is_day as day_test};
+ghost use Rattle.tt_intcol.specs.IntReading.{GivesPart, value_at, int_at, date_at, is_day as day_test};
+ghost use Rattle.tt_intcol.specs.declared.parts.PartError.TheVariants as part_errors;
 
-use crate::column::{BadColumn, DecodeError};
-use std::alloc::Global;
+use std::alloc::{AllocError, AllocFailed, Global};
 use tt_value::{Kind, Sequence, packing};
 
 /// The first and the last day of the years 1 to 9999.
@@ -14,6 +14,29 @@ pub const FIRST_DAY: i64 = -719_162;
 
 /// The day 9999-12-31. Both are days since 1970-01-01.
 pub const LAST_DAY: i64 = 2_932_896;
+
+/// Why a part was not read: memory ran out, or it has a fault at that place of bitmap and body.
+#[derive(Drop)]
+pub enum PartError {
+    Memory,
+    At(u64),
+}
+
+impl From<AllocError> for PartError {
+    ghost from_gives = { λ _ e. e ≡ part_errors.Memory };
+
+    fn from(_error: AllocError) -> PartError {
+        PartError::Memory
+    }
+}
+
+impl<T: Drop> From<AllocFailed<T>> for PartError {
+    ghost from_gives = { λ _ e. e ≡ part_errors.Memory };
+
+    fn from(_error: AllocFailed<T>) -> PartError {
+        PartError::Memory
+    }
+}
 
 /// The place where what is left begins, if the bytes end at `end`.
 pub fn place(end: u64, bytes: &[u8]) -> u64
@@ -23,7 +46,7 @@ pub fn place(end: u64, bytes: &[u8]) -> u64
 }
 
 /// Bytes are below 256.
-fn are_bytes(bytes: &[u8])
+pub fn are_bytes(bytes: &[u8])
     ensures { All (λ byte. byte < 256) bytes.now }
 {}
 
@@ -38,15 +61,15 @@ pub fn part(bytes: &Sequence<u8>) -> &[u8]
 }
 
 /// A fault at that place.
-pub fn bad(place: u64) -> DecodeError
-    ensures { result ≡ DecodeError.BadColumn (record { place = place }) }
+pub fn bad(place: u64) -> PartError
+    ensures { result ≡ PartError.At place }
 {
-    DecodeError::BadColumn(BadColumn { place })
+    PartError::At(place)
 }
 
 /// A byte, and what stands behind it. Where there is none the fault is at `end`.
-pub fn read_byte(end: u64, bytes: &[u8]) -> Result<(u8, &[u8]), DecodeError>
-    ensures { Gives (λ x. (x.0, x.1.now)) result (number_at w8 end bytes.now) }
+pub fn read_byte(end: u64, bytes: &[u8]) -> Result<(u8, &[u8]), PartError>
+    ensures { GivesPart (λ x. (x.0, x.1.now)) result (number_at w8 end bytes.now) }
 {
     match bytes.split_first() {
         Some((first, rest)) => Ok((*first, rest)),
@@ -56,8 +79,8 @@ pub fn read_byte(end: u64, bytes: &[u8]) -> Result<(u8, &[u8]), DecodeError>
 
 /// Four bytes, the least significant first, and what stands behind them. Where there are fewer the fault is at
 /// `end`.
-pub fn read_u32(end: u64, bytes: &[u8]) -> Result<(u32, &[u8]), DecodeError>
-    ensures { Gives (λ x. (x.0, x.1.now)) result (number_at w32 end bytes.now) }
+pub fn read_u32(end: u64, bytes: &[u8]) -> Result<(u32, &[u8]), PartError>
+    ensures { GivesPart (λ x. (x.0, x.1.now)) result (number_at w32 end bytes.now) }
 {
     if bytes.len() < 4 {
         return Err(bad(end));
@@ -68,8 +91,8 @@ pub fn read_u32(end: u64, bytes: &[u8]) -> Result<(u32, &[u8]), DecodeError>
 }
 
 /// Eight bytes in the same way.
-pub fn read_u64(end: u64, bytes: &[u8]) -> Result<(u64, &[u8]), DecodeError>
-    ensures { Gives (λ x. (x.0, x.1.now)) result (number_at w64 end bytes.now) }
+pub fn read_u64(end: u64, bytes: &[u8]) -> Result<(u64, &[u8]), PartError>
+    ensures { GivesPart (λ x. (x.0, x.1.now)) result (number_at w64 end bytes.now) }
 {
     if bytes.len() < 8 {
         return Err(bad(end));
@@ -89,16 +112,16 @@ pub fn is_day(number: i64) -> bool
 }
 
 #[tactic(auto, unfolding(crate::specs::IntReading::int_at))]
-fn read_int(end: u64, bytes: &[u8]) -> Result<(i64, &[u8]), DecodeError>
-    ensures { Gives (λ x. (x.0, x.1.now)) result (int_at end bytes.now) }
+fn read_int(end: u64, bytes: &[u8]) -> Result<(i64, &[u8]), PartError>
+    ensures { GivesPart (λ x. (x.0, x.1.now)) result (int_at end bytes.now) }
 {
     let (number, rest) = read_u64(end, bytes)?;
     Ok((number.cast_signed(), rest))
 }
 
 #[tactic(auto, unfolding(crate::specs::IntReading::date_at))]
-fn read_date(end: u64, bytes: &[u8]) -> Result<(i64, &[u8]), DecodeError>
-    ensures { Gives (λ x. (x.0, x.1.now)) result (date_at end bytes.now) }
+fn read_date(end: u64, bytes: &[u8]) -> Result<(i64, &[u8]), PartError>
+    ensures { GivesPart (λ x. (x.0, x.1.now)) result (date_at end bytes.now) }
 {
     let (number, rest) = read_u32(end, bytes)?;
     let day = i64::from(number.cast_signed());
@@ -109,8 +132,8 @@ fn read_date(end: u64, bytes: &[u8]) -> Result<(i64, &[u8]), DecodeError>
 }
 
 /// A value of the kind.
-pub fn read_value(kind: Kind, end: u64, bytes: &[u8]) -> Result<(i64, &[u8]), DecodeError>
-    ensures { Gives (λ x. (x.0, x.1.now)) result (value_at kind end bytes.now) }
+pub fn read_value(kind: Kind, end: u64, bytes: &[u8]) -> Result<(i64, &[u8]), PartError>
+    ensures { GivesPart (λ x. (x.0, x.1.now)) result (value_at kind end bytes.now) }
 {
     match kind {
         Kind::Date => read_date(end, bytes),
@@ -120,8 +143,8 @@ pub fn read_value(kind: Kind, end: u64, bytes: &[u8]) -> Result<(i64, &[u8]), De
 
 /// A number of runs or of distinct values.
 #[tactic(auto, unfolding(tt_value::specs::columns::Reading::count_at))]
-pub fn read_count(end: u64, most: usize, bytes: &[u8]) -> Result<(u32, &[u8]), DecodeError>
-    ensures { Gives (λ x. (x.0, x.1.now)) result (count_at end most bytes.now) }
+pub fn read_count(end: u64, most: usize, bytes: &[u8]) -> Result<(u32, &[u8]), PartError>
+    ensures { GivesPart (λ x. (x.0, x.1.now)) result (count_at end most bytes.now) }
 {
     let (count, rest) = read_u32(end, bytes)?;
     if count as usize > most || (count == 0 && most != 0) {

@@ -7,10 +7,9 @@ ghost use Rattle.std.specs.List.{list_all};
 ghost use Rattle.std.specs.Option.{option_map};
 ghost use Rattle.tt_value.specs.columns.Packing.{bytes_for};
 ghost use Rattle.tt_value.specs.columns.Reading.{is_new, is_next, uses_each, values_of, looked_up, dictionary_values_at, packed_at, values_at, run_at, runs_at, run_values_at, entry_at, entries_at};
-ghost use Rattle.tt_intcol.specs.IntReading.{Gives, value_at};
+ghost use Rattle.tt_intcol.specs.IntReading.{GivesPart, value_at};
 
-use crate::column::DecodeError;
-use crate::parts::{bad, place, read_count, read_u32, read_value};
+use crate::parts::{PartError, bad, place, read_count, read_u32, read_value};
 use std::alloc::{AllocError, Global};
 use tt_value::{Kind, packing};
 
@@ -30,9 +29,9 @@ pub fn read_packed(
     width: u32,
     count: usize,
     bytes: &[u8],
-) -> Result<(Vec<u64>, &[u8]), DecodeError>
+) -> Result<(Vec<u64>, &[u8]), PartError>
     requires { width ≤ 64 }
-    ensures { Gives (λ x. (x.0.items, x.1.now)) result (packed_at end width count bytes.now) }
+    ensures { GivesPart (λ x. (x.0.items, x.1.now)) result (packed_at end width count bytes.now) }
 {
     let size = packed_size(count, width);
     if (bytes.len() as u128) < size {
@@ -52,8 +51,8 @@ pub fn read_values(
     end: u64,
     count: usize,
     bytes: &[u8],
-) -> Result<(Vec<i64>, &[u8]), DecodeError>
-    ensures { Gives (λ x. (x.0.items, x.1.now)) result (values_at (value_at kind) int_cmp end count bytes.now) }
+) -> Result<(Vec<i64>, &[u8]), PartError>
+    ensures { GivesPart (λ x. (x.0.items, x.1.now)) result (values_at (value_at kind) int_cmp end count bytes.now) }
 {
     let mut values = Vec::with_capacity(alloc, count.min(bytes.len()))?;
     let mut rest = bytes;
@@ -80,8 +79,8 @@ fn read_run(
     left: usize,
     before: Option<i64>,
     bytes: &[u8],
-) -> Result<((i64, u32), &[u8]), DecodeError>
-    ensures found { Gives (λ x. (x.0, x.1.now)) result (run_at (value_at kind) int_cmp end later left before bytes.now) }
+) -> Result<((i64, u32), &[u8]), PartError>
+    ensures found { GivesPart (λ x. (x.0, x.1.now)) result (run_at (value_at kind) int_cmp end later left before bytes.now) }
     ensures within { IfOk result (λ x. x.0.1 ≤ left) }
 {
     let (value, rest) = read_value(kind, end, bytes)?;
@@ -113,8 +112,8 @@ fn read_runs(
     count: u32,
     most: usize,
     bytes: &[u8],
-) -> Result<(Vec<i64>, &[u8]), DecodeError>
-    ensures { Gives (λ x. (x.0.items, x.1.now)) result (runs_at (value_at kind) int_cmp end count most None bytes.now) }
+) -> Result<(Vec<i64>, &[u8]), PartError>
+    ensures { GivesPart (λ x. (x.0.items, x.1.now)) result (runs_at (value_at kind) int_cmp end count most None bytes.now) }
 {
     let mut values = Vec::with_capacity(alloc, most)?;
     let mut rest = bytes;
@@ -138,8 +137,8 @@ pub fn read_run_values(
     end: u64,
     most: usize,
     bytes: &[u8],
-) -> Result<(Vec<i64>, &[u8]), DecodeError>
-    ensures { Gives (λ x. (x.0.items, x.1.now)) result (run_values_at (value_at kind) int_cmp end most bytes.now) }
+) -> Result<(Vec<i64>, &[u8]), PartError>
+    ensures { GivesPart (λ x. (x.0.items, x.1.now)) result (run_values_at (value_at kind) int_cmp end most bytes.now) }
 {
     let (count, rest) = read_count(end, most, bytes)?;
     read_runs(alloc, kind, end, count, most, rest)
@@ -161,8 +160,8 @@ fn read_entry(
     end: u64,
     before: Option<i64>,
     bytes: &[u8],
-) -> Result<(i64, &[u8]), DecodeError>
-    ensures { Gives (λ x. (x.0, x.1.now)) result (entry_at (value_at kind) int_cmp end before bytes.now) }
+) -> Result<(i64, &[u8]), PartError>
+    ensures { GivesPart (λ x. (x.0, x.1.now)) result (entry_at (value_at kind) int_cmp end before bytes.now) }
 {
     let (value, rest) = read_value(kind, end, bytes)?;
     if !is_below(before, value) {
@@ -178,8 +177,8 @@ pub fn read_entries(
     end: u64,
     count: u32,
     bytes: &[u8],
-) -> Result<(Vec<i64>, &[u8]), DecodeError>
-    ensures { Gives (λ x. (x.0.items, x.1.now)) result (entries_at (value_at kind) int_cmp end count None bytes.now) }
+) -> Result<(Vec<i64>, &[u8]), PartError>
+    ensures { GivesPart (λ x. (x.0.items, x.1.now)) result (entries_at (value_at kind) int_cmp end count None bytes.now) }
 {
     let mut values = Vec::with_capacity(alloc, (count as usize).min(bytes.len()))?;
     let mut rest = bytes;
@@ -238,8 +237,8 @@ fn look_up(
     place: u64,
     entries: &[i64],
     indexes: &[u64],
-) -> Result<Vec<i64>, DecodeError>
-    ensures { Gives (λ v. v.items) result (looked_up place entries.now indexes.now) }
+) -> Result<Vec<i64>, PartError>
+    ensures { GivesPart (λ v. v.items) result (looked_up place entries.now indexes.now) }
 {
     match values_at_indexes(alloc, entries, indexes)? {
         None => Err(bad(place)),
@@ -260,8 +259,8 @@ pub fn read_dictionary_values(
     end: u64,
     most: usize,
     bytes: &[u8],
-) -> Result<(Vec<i64>, &[u8]), DecodeError>
-    ensures { Gives (λ x. (x.0.items, x.1.now)) result (dictionary_values_at (value_at kind) int_cmp end most bytes.now) }
+) -> Result<(Vec<i64>, &[u8]), PartError>
+    ensures { GivesPart (λ x. (x.0.items, x.1.now)) result (dictionary_values_at (value_at kind) int_cmp end most bytes.now) }
 {
     let (count, rest) = read_count(end, most, bytes)?;
     let (entries, rest) = read_entries(alloc, kind, end, count, rest)?;

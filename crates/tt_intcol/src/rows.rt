@@ -5,17 +5,24 @@ ghost use Rattle.std.specs.List.{list_any};
 ghost use Rattle.tt_value.specs.columns.Reading.{flags_at, has_flag, present_count, spread};
 ghost use Rattle.std.specs.List.{AllByRecursion};
 ghost use Rattle.tt_value.specs.columns.Body.{present};
-ghost use Rattle.tt_intcol.specs.IntBody.{encoding_of, column_of, IsValue};
-ghost use Rattle.tt_intcol.specs.IntReading.{Gives, encoding_at, body_at, values_in, rows_of};
+ghost use Rattle.tt_intcol.specs.IntBody.{body, encoding_of, column_of, IsValue};
+ghost use Rattle.tt_intcol.specs.IntReading.{Gives, GivesPart, encoding_at, body_at, is_empty_frame as empty_frame_test, whole_body, values_in, column_with, rows_of};
 
 use crate::choice;
 use crate::column::{DecodeError, IntColumn};
 use crate::encoding::Encoding;
 use crate::frame::read_frame;
-use crate::parts::{bad, part, place};
+use crate::parts::{PartError, are_bytes, bad, part, place};
 use crate::reading::{read_dictionary_values, read_packed, read_run_values, read_values};
 use std::alloc::{AllocError, Global};
-use tt_value::Kind;
+use tt_value::{BadColumn, FaultAt, Kind};
+
+/// A fault at the byte of the encoding.
+fn bad_encoding(at: FaultAt) -> BadColumn
+    ensures { result ≡ record { place = 0; at = at } }
+{
+    BadColumn { place: 0, at }
+}
 
 fn read_encoding(code: u8) -> Result<Encoding, DecodeError>
     ensures { Gives (λ e. e) result (encoding_at code) }
@@ -25,7 +32,7 @@ fn read_encoding(code: u8) -> Result<Encoding, DecodeError>
         1 => Ok(Encoding::Frame),
         2 => Ok(Encoding::Run),
         3 => Ok(Encoding::Dictionary),
-        _ => Err(bad(0)),
+        _ => Err(DecodeError::BadColumn(bad_encoding(FaultAt::Encoding))),
     }
 }
 
@@ -37,8 +44,8 @@ fn has_flag(flags: &[u64]) -> bool
 
 /// The flags of a bitmap: 1 for NULL.
 #[tactic(auto, unfolding(tt_value::specs::columns::Reading::flags_at))]
-fn read_flags(alloc: Global, rows: u32, nulls: bool, bitmap: &[u8]) -> Result<Vec<u64>, DecodeError>
-    ensures { Gives (λ v. v.items) result (flags_at rows nulls bitmap.now) }
+fn read_flags(alloc: Global, rows: u32, nulls: bool, bitmap: &[u8]) -> Result<Vec<u64>, PartError>
+    ensures { GivesPart (λ v. v.items) result (flags_at rows nulls bitmap.now) }
 {
     if !nulls {
         if !bitmap.is_empty() {
@@ -92,6 +99,16 @@ fn spread(alloc: Global, flags: &[u64], values: &[i64]) -> Result<Vec<Option<i64
     Ok(rows)
 }
 
+/// Whether it is a frame of no values, which is no form.
+fn is_empty_frame(encoding: Encoding, count: usize) -> bool
+    ensures { result ≡ empty_frame_test encoding count }
+{
+    match encoding {
+        Encoding::Frame => count == 0,
+        _ => false,
+    }
+}
+
 /// The values of a body of that form, of which there are so many.
 fn read_body(
     alloc: Global,
@@ -100,23 +117,39 @@ fn read_body(
     end: u64,
     count: usize,
     bytes: &[u8],
-) -> Result<(Vec<i64>, &[u8]), DecodeError>
-    ensures { Gives (λ x. (x.0.items, x.1.now)) result (body_at kind encoding end count bytes.now) }
+) -> Result<(Vec<i64>, &[u8]), PartError>
+    ensures { GivesPart (λ x. (x.0.items, x.1.now)) result (body_at kind encoding end count bytes.now) }
 {
     match encoding {
         Encoding::Plain => read_values(alloc, kind, end, count, bytes),
-        Encoding::Frame => {
-            if count == 0 {
-                return Err(bad(0));
-            }
-            read_frame(alloc, kind, end, count, bytes)
-        }
+        Encoding::Frame => read_frame(alloc, kind, end, count, bytes),
         Encoding::Run => read_run_values(alloc, kind, end, count, bytes),
         Encoding::Dictionary => read_dictionary_values(alloc, kind, end, count, bytes),
     }
 }
 
-/// The values of the body, all of its bytes, where its form is the shortest.
+/// The values of a body that ends behind its last part, and how long it is.
+#[tactic(auto, unfolding(crate::specs::IntReading::whole_body))]
+fn read_whole(
+    alloc: Global,
+    kind: Kind,
+    encoding: Encoding,
+    end: u64,
+    count: usize,
+    bytes: &[u8],
+) -> Result<Vec<i64>, PartError>
+    requires { All (λ byte. byte < 256) bytes.now }
+    ensures values { GivesPart (λ v. v.items) result (whole_body kind encoding end count bytes.now) }
+    ensures length { IfOk result (λ v. length bytes.now ≡ length (body kind v.items encoding)) }
+{
+    let (values, rest) = read_body(alloc, kind, encoding, end, count, bytes)?;
+    if !rest.is_empty() {
+        return Err(bad(place(end, rest)));
+    }
+    Ok(values)
+}
+
+/// The values of the body, where its form is the shortest.
 #[tactic(auto, unfolding(crate::specs::IntReading::values_in))]
 fn read_all(
     alloc: Global,
@@ -129,32 +162,32 @@ fn read_all(
     requires { All (λ byte. byte < 256) bytes.now }
     ensures { Gives (λ v. v.items) result (values_in kind encoding end count bytes.now) }
 {
-    let (values, rest) = read_body(alloc, kind, encoding, end, count, bytes)?;
-    if !rest.is_empty() {
-        return Err(bad(place(end, rest)));
+    if is_empty_frame(encoding, count) {
+        return Err(DecodeError::BadColumn(bad_encoding(FaultAt::Encoding)));
     }
+    let values = read_whole(alloc, kind, encoding, end, count, bytes)?;
     if !choice::is_shortest(alloc, kind, encoding, bytes.len(), &values)? {
-        return Err(bad(0));
+        return Err(DecodeError::BadColumn(bad_encoding(FaultAt::Longer)));
     }
     Ok(values)
 }
 
-/// The rows of a column.
+/// The rows of a column whose bytes stand elsewhere, as in `decode`.
 #[tactic(auto, unfolding(crate::specs::IntReading::rows_of))]
-fn read_rows(
+pub fn decode_parts(
     alloc: Global,
     kind: Kind,
     rows: u32,
-    column: &IntColumn,
+    encoding: u8,
+    nulls: bool,
+    bitmap: &[u8],
+    body: &[u8],
 ) -> Result<Vec<Option<i64>>, DecodeError>
-    ensures rows { Gives (λ v. v.items) result (rows_of kind rows column.now) }
-    ensures bitmap { IfOk result (λ v. All (λ byte. byte < 256) column.now.bitmap) }
-    ensures body { IfOk result (λ v. All (λ byte. byte < 256) column.now.body) }
+    ensures { Gives (λ v. v.items) result (rows_of kind rows (column_with encoding nulls bitmap.now body.now)) }
 {
-    let encoding = read_encoding(column.encoding)?;
-    let bitmap = part(&column.bitmap);
-    let body = part(&column.body);
-    let flags = read_flags(alloc, rows, column.nulls, bitmap)?;
+    let encoding = read_encoding(encoding)?;
+    are_bytes(body);
+    let flags = read_flags(alloc, rows, nulls, bitmap)?;
     let end = bitmap.len() as u64 + body.len() as u64;
     let values = read_all(alloc, kind, encoding, end, count_present(&flags), body)?;
     Ok(spread(alloc, &flags, &values)?)
@@ -178,5 +211,15 @@ pub fn decode(
     // Which rows they are, or which place it is; only want of memory is free.
     ensures exact { Gives (λ v. v.items) result (rows_of kind rows column.now) }
 {
-    read_rows(alloc, kind, rows, column)
+    let bitmap = part(&column.bitmap);
+    let body = part(&column.body);
+    decode_parts(
+        alloc,
+        kind,
+        rows,
+        column.encoding,
+        column.nulls,
+        bitmap,
+        body,
+    )
 }

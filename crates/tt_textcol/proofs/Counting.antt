@@ -11,7 +11,7 @@ use Rattle.std.proofs.lemmas.List.Folds.{list_any_more}
 use Rattle.tt_value.specs.columns.Body.{distinct, with_value}
 use Rattle.tt_value.proofs.columns.Distinct.{has, has_with, has_distinct, ascends_with, distinct_ascends, same_ascending}
 use Rattle.tt_textcol.specs.TextBody.{text_bytes, text_cmp}
-use Rattle.tt_textcol.specs.TextLaws.{text_total, text_ties}
+use Rattle.tt_textcol.proofs.TextLaws.{text_total, text_ties}
 use Rattle.tt_textcol.proofs.Lengths.{length-text}
 
 abbrev pub holds : List ℕ → List (List ℕ) → Bool

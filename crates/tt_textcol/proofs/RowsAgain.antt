@@ -12,8 +12,8 @@ use Rattle.tt_value.proofs.columns.Again.{values_again, run_values_again, dictio
 use Rattle.tt_textcol.specs.declared.encoding.Encoding.{Encoding}
 use Rattle.tt_textcol.specs.declared.encoding.Encoding.TheVariants.{Plain, Run, Dictionary}
 use Rattle.tt_textcol.specs.TextBody.{text_bytes, text_cmp, IsValue, body, code, encoding_of, column_of}
-use Rattle.tt_textcol.specs.TextLaws.{text_total, text_ties}
-use Rattle.tt_textcol.specs.TextReading.{text_at, body_at, encoding_at, values_in, rows_of}
+use Rattle.tt_textcol.proofs.TextLaws.{text_total, text_ties}
+use Rattle.tt_textcol.specs.TextReading.{text_at, body_at, encoding_at, whole_body, values_in, rows_of}
 use Rattle.tt_textcol.proofs.TextTests.{value_tested}
 
 number_again : (w : Width) (end n : ℕ) (rest : List ℕ) → length (to_le_bytes w n) ≡ byte_len w → from_le_bytes w (to_le_bytes w n) ≡ n → number_at w end (to_le_bytes w n ++ rest) ≡ Ok (n, rest)
@@ -40,12 +40,17 @@ encoding_again Plain = refl
 encoding_again Run = refl
 encoding_again Dictionary = refl
 
+whole_again : (vs : List (List ℕ)) (e : Encoding) → AllByRecursion IsValue vs → length vs < 2 ^ 32 → (end : ℕ) → whole_body e end (length vs) (body vs e) ≡ Ok vs
+unfolding whole_body
+whole_again vs e valid few end =
+    let read : body_at e end (length vs) (body vs e) ≡ Ok (vs, []) = ap (body_at e end (length vs)) (sym (append-nil (body vs e))) ∙ body_again vs e valid few end in
+    rw read refl
+
 values_in_again : (vs : List (List ℕ)) → AllByRecursion IsValue vs → length vs < 2 ^ 32 → (end : ℕ) → values_in (encoding_of vs) end (length vs) (body vs (encoding_of vs)) ≡ Ok vs
 unfolding values_in
 values_in_again vs valid few end =
     let e : Encoding = encoding_of vs in
-    let read : body_at e end (length vs) (body vs e) ≡ Ok (vs, []) = ap (body_at e end (length vs)) (sym (append-nil (body vs e))) ∙ body_again vs e valid few end in
-    rw (read, eq-eqb (code e) (code e) refl) refl
+    rw (whole_again vs e valid few end, eq-eqb (code e) (code e) refl) refl
 
 pub rows_again : (rows : List (Option (List ℕ))) → AllByRecursion IsValue (present rows) → length rows < 2 ^ 32 → rows_of (length rows) (column_of rows) ≡ Ok rows
 unfolding rows_of column_of

@@ -6,16 +6,16 @@ use Rattle.std.specs.Int.{w16, to_le_bytes, from_le_bytes}
 use Rattle.std.proofs.lemmas.Bool.{ltb-false}
 use Rattle.std.proofs.lemmas.List.{append-nil, take-append-drop}
 use Rattle.tt_value.specs.columns.Body.{present, bitmap_of, has_null}
-use Rattle.tt_value.specs.columns.Reading.{◌>>=◌, checked, number_at, ended, flags_at, present_count, spread}
+use Rattle.tt_value.specs.columns.Reading.{◌>>=◌, checked, is_longer, in_column, number_at, ended, flags_at, present_count, spread}
 use Rattle.tt_value.proofs.columns.Packing.{Fit}
-use Rattle.tt_value.proofs.columns.Accepted.{bound, held, enough, same_ok, short_taken, ended_taken, values_taken, run_values_taken, dictionary_values_taken, rows_taken}
+use Rattle.tt_value.proofs.columns.Accepted.{bound, held, in_column_taken, enough, same_ok, short_taken, ended_taken, values_taken, run_values_taken, dictionary_values_taken, rows_taken}
 use Rattle.tt_textcol.specs.declared.encoding.Encoding.{Encoding}
 use Rattle.tt_textcol.specs.declared.encoding.Encoding.TheVariants.{Plain, Run, Dictionary}
 use Rattle.tt_textcol.specs.declared.column.TextColumn.{TextColumn}
 use Rattle.tt_textcol.specs.TextBody.{text_bytes, text_cmp, IsValue, body, code, encoding_of, column_of}
-use Rattle.tt_textcol.specs.TextLaws.{text_total, text_ties}
+use Rattle.tt_textcol.proofs.TextLaws.{text_total, text_ties}
 use Rattle.tt_textcol.specs.declared.column.DecodeError.{DecodeError}
-use Rattle.tt_textcol.specs.TextReading.{Gives, is_text, text_at, body_at, encoding_at, values_in, rows_of}
+use Rattle.tt_textcol.specs.TextReading.{Gives, is_text, text_at, body_at, encoding_at, whole_body, values_in, column_with, rows_of}
 use Rattle.tt_textcol.proofs.TextTests.{tested_value}
 
 length-take : (n : ℕ) (bs : List ℕ) → n ≤ length bs → length (take n bs) ≡ n
@@ -76,32 +76,29 @@ same_code Dictionary Plain e = absurd cc
 same_code Dictionary Run e = absurd cc
 same_code Dictionary Dictionary e = refl
 
+whole_taken : (e : Encoding) (end count : ℕ) (bs : List ℕ) (vs : List (List ℕ)) → Fit 8 bs → whole_body e end count bs ≡ Ok vs → (bs ≡ body vs e) × (length vs ≡ count) × AllByRecursion IsValue vs
+unfolding whole_body
+whole_taken e end count bs vs fit h =
+    let one = bound (body_at e end count bs) (λ read. ended end read) vs h in
+    let last = ended_taken end one.0 vs one.2 in
+    let is = body_taken e end count bs one.0 fit one.1 in
+    let whole : bs ≡ body one.0.0 e = is.0 ∙ ap (λ t. body one.0.0 e ++ t) last.0 ∙ append-nil (body one.0.0 e) in
+    (whole ∙ ap (λ t. body t e) last.1, ap length (sym last.1) ∙ is.1, subst (λ (t : List (List ℕ)). AllByRecursion IsValue t) last.1 is.2)
+
 values_in_taken : (e : Encoding) (end count : ℕ) (bs : List ℕ) (vs : List (List ℕ)) → Fit 8 bs → values_in e end count bs ≡ Ok vs → (bs ≡ body vs e) × (e ≡ encoding_of vs) × (length vs ≡ count) × AllByRecursion IsValue vs
 unfolding values_in
 values_in_taken e end count bs vs fit h =
-    let one = bound (body_at e end count bs) (λ read. ended end read >>= λ vs. checked (code (encoding_of vs) == code e) 0 vs) vs h in
-    let two = bound (ended end one.0) (λ vs. checked (code (encoding_of vs) == code e) 0 vs) vs one.2 in
-    let three = held (code (encoding_of two.0) == code e) 0 two.0 vs two.2 in
-    let last = ended_taken end one.0 two.0 two.1 in
-    let is = body_taken e end count bs one.0 fit one.1 in
-    let same : one.0.0 ≡ vs = last.1 ∙ three.1 in
-    let whole : bs ≡ body one.0.0 e = is.0 ∙ ap (λ t. body one.0.0 e ++ t) last.0 ∙ append-nil (body one.0.0 e) in
-    (whole ∙ ap (λ t. body t e) same, sym (same_code (encoding_of two.0) e three.0) ∙ ap encoding_of three.1, ap length (sym same) ∙ is.1, subst (λ (t : List (List ℕ)). AllByRecursion IsValue t) same is.2)
+    let one = bound (in_column (whole_body e end count bs)) (λ vs. checked (code (encoding_of vs) == code e) is_longer vs) vs h in
+    let are = whole_taken e end count bs one.0 fit (in_column_taken (whole_body e end count bs) one.0 one.1) in
+    let ruled = held (code (encoding_of one.0) == code e) is_longer one.0 vs one.2 in
+    let same : one.0 ≡ vs = ruled.1 in
+    (are.0 ∙ ap (λ t. body t e) same, sym (same_code (encoding_of one.0) e ruled.0) ∙ ap encoding_of same, ap length (sym same) ∙ are.1, subst (λ (t : List (List ℕ)). AllByRecursion IsValue t) same are.2)
 
 encoding_taken : (n : ℕ) (e : Encoding) → encoding_at n ≡ Ok e → n ≡ code e
-encoding_taken zero e h = ap code (same_ok' Plain e h)
-  where
-    same_ok' : (a b : Encoding) → (◌≡◌ {A = Result Encoding ℕ} (Ok a) (Ok b)) → a ≡ b
-    same_ok' a b h = cc
+encoding_taken zero e h = ap code (same_ok Plain e h)
 encoding_taken (suc zero) e h = absurd cc
-encoding_taken (suc (suc zero)) e h = ap code (same_ok' Run e h)
-  where
-    same_ok' : (a b : Encoding) → (◌≡◌ {A = Result Encoding ℕ} (Ok a) (Ok b)) → a ≡ b
-    same_ok' a b h = cc
-encoding_taken (suc (suc (suc zero))) e h = ap code (same_ok' Dictionary e h)
-  where
-    same_ok' : (a b : Encoding) → (◌≡◌ {A = Result Encoding ℕ} (Ok a) (Ok b)) → a ≡ b
-    same_ok' a b h = cc
+encoding_taken (suc (suc zero)) e h = ap code (same_ok Run e h)
+encoding_taken (suc (suc (suc zero))) e h = ap code (same_ok Dictionary e h)
 encoding_taken (suc (suc (suc (suc n)))) e h = absurd cc
 
 -- the parts of a column
@@ -121,14 +118,14 @@ pub column_taken : (rows : ℕ) (column : TextColumn) (read : List (Option (List
 unfolding rows_of
 column_taken rows column read fit_map fit_body h =
     let end : ℕ = length column.bitmap + length column.body in
-    let one = bound (encoding_at column.encoding) (λ e. flags_at rows column.nulls column.bitmap >>= λ flags. values_in e end (present_count flags) column.body >>= λ vs. Ok (spread flags vs)) read h in
+    let one = bound (encoding_at column.encoding) (λ e. in_column (flags_at rows column.nulls column.bitmap) >>= λ flags. values_in e end (present_count flags) column.body >>= λ vs. Ok (spread flags vs)) read h in
     let e : Encoding = one.0 in
-    let two = bound (flags_at rows column.nulls column.bitmap) (λ flags. values_in e end (present_count flags) column.body >>= λ vs. Ok (spread flags vs)) read one.2 in
+    let two = bound (in_column (flags_at rows column.nulls column.bitmap)) (λ flags. values_in e end (present_count flags) column.body >>= λ vs. Ok (spread flags vs)) read one.2 in
     let flags : List ℕ = two.0 in
     let three = bound (values_in e end (present_count flags) column.body) (λ vs. Ok (spread flags vs)) read two.2 in
     let vs : List (List ℕ) = three.0 in
     let is = values_in_taken e end (present_count flags) column.body vs fit_body three.1 in
-    let nulls = rows_taken rows column.nulls column.bitmap flags vs fit_map two.1 is.2 in
+    let nulls = rows_taken rows column.nulls column.bitmap flags vs fit_map (in_column_taken (flags_at rows column.nulls column.bitmap) flags two.1) is.2 in
     let code_is = encoding_taken column.encoding e one.1 in
     subst (λ (read : List (Option (List ℕ))). (column ≡ column_of read) × (length read ≡ rows) × AllByRecursion IsValue (present read)) (same_ok (spread flags vs) read three.2) (
       column_parts column (spread flags vs)
@@ -137,6 +134,13 @@ column_taken rows column read fit_map fit_body h =
       nulls.3,
       subst (λ (t : List (List ℕ)). AllByRecursion IsValue t) (sym nulls.2) is.3,
     )
+
+-- what was read of the bytes of a column was read of the column
+pub same_given : {X : Type 0} (view : X → List (Option (List ℕ))) (result : Result X DecodeError) (rows : ℕ) (column : TextColumn) (bitmap body : List ℕ) → bitmap ≡ column.bitmap → body ≡ column.body
+    → Gives view result (rows_of rows (column_with column.encoding column.nulls bitmap body)) → Gives view result (rows_of rows column)
+same_given view result rows column bitmap body e f h =
+    subst (λ (bs : List ℕ). Gives view result (rows_of rows (column_with column.encoding column.nulls column.bitmap bs))) f
+    (subst (λ (bs : List ℕ). Gives view result (rows_of rows (column_with column.encoding column.nulls bs body))) e h)
 
 pub only_given : {X : Type 0} (rows : ℕ) (column : TextColumn) (view : X → List (Option (List ℕ))) (result : Result X DecodeError) → Fit 8 column.bitmap → Fit 8 column.body → Gives view result (rows_of rows column)
     → IfOk result (λ v. (column ≡ column_of (view v)) × (length (view v) ≡ rows) × AllByRecursion IsValue (present (view v)))

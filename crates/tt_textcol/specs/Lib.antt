@@ -1,4 +1,3 @@
 pub mod TextBody
-pub mod TextLaws
 pub mod TextNumber
 pub mod TextReading

@@ -4,22 +4,39 @@ use Rattle.std.specs.List.{position}
 use Rattle.std.specs.Int.{w16}
 use Rattle.std.specs.Str.{is_utf8}
 use Rattle.tt_value.specs.values.Texts.{is_control}
-use Rattle.tt_value.specs.columns.Reading.{◌>>=◌, checked, number_at, values_at, run_values_at, dictionary_values_at, ended, flags_at, present_count, spread}
+use Rattle.tt_value.specs.columns.Reading.{◌>>=◌, checked, at_byte, at_encoding, is_longer, in_column, number_at, values_at, run_values_at, dictionary_values_at, ended, flags_at, present_count, spread}
+use Rattle.tt_value.specs.declared.column.BadColumn.{BadColumn}
 use Rattle.tt_textcol.specs.declared.encoding.Encoding.{Encoding}
 use Rattle.tt_textcol.specs.declared.encoding.Encoding.TheVariants.{Plain, Run, Dictionary}
 use Rattle.tt_textcol.specs.declared.column.TextColumn.{TextColumn}
 use Rattle.tt_textcol.specs.declared.column.DecodeError.{DecodeError}
 use Rattle.tt_textcol.specs.declared.column.DecodeError.TheVariants as errors
+use Rattle.tt_textcol.specs.declared.parts.PartError.{PartError}
+use Rattle.tt_textcol.specs.declared.parts.PartError.TheVariants as part_errors
 use Rattle.tt_textcol.specs.TextBody.{text_cmp, code, encoding_of}
 
--- What a function returned, seen by view, is what reading gives, unless memory ran out.
-abbrev pub Fails : {Y : Type 0} → DecodeError → Result Y ℕ → Type 0
-Fails errors.Memory read = Unit {0}
-Fails (errors.BadColumn bad) read = read ≡ Err bad.place
+-- What a function returned of a part, seen by view, is what reading gives, unless memory ran out.
+abbrev pub FailsPart : {Y : Type 0} → PartError → Result Y ℕ → Type 0
+FailsPart part_errors.Memory read = Unit {0}
+FailsPart (part_errors.At place) read = read ≡ Err place
 
-abbrev pub Gives : {X Y : Type 0} → (X → Y) → Result X DecodeError → Result Y ℕ → Type 0
+abbrev pub GivesPart : {X Y : Type 0} → (X → Y) → Result X PartError → Result Y ℕ → Type 0
+GivesPart view (Ok x) read = read ≡ Ok (view x)
+GivesPart view (Err e) read = FailsPart e read
+
+-- The same of a column, whose fault says also whether it is at the byte of the encoding.
+abbrev pub Fails : {Y : Type 0} → DecodeError → Result Y BadColumn → Type 0
+Fails errors.Memory read = Unit {0}
+Fails (errors.BadColumn bad) read = read ≡ Err bad
+
+abbrev pub Gives : {X Y : Type 0} → (X → Y) → Result X DecodeError → Result Y BadColumn → Type 0
 Gives view (Ok x) read = read ≡ Ok (view x)
 Gives view (Err e) read = Fails e read
+
+-- the fault of a part, as that of its column
+abbrev pub decode_error : PartError → DecodeError
+decode_error part_errors.Memory = errors.Memory
+decode_error (part_errors.At place) = errors.BadColumn (at_byte place)
 
 -- UTF-8 without control characters; how long a text may be is as much as its two bytes of length can say
 abbrev pub is_text : List ℕ → Bool
@@ -36,23 +53,32 @@ body_at Plain end count bytes = values_at text_at text_cmp end count bytes
 body_at Run end count bytes = run_values_at text_at text_cmp end count bytes
 body_at Dictionary end count bytes = dictionary_values_at text_at text_cmp end count bytes
 
-abbrev pub encoding_at : ℕ → Result Encoding ℕ
+abbrev pub encoding_at : ℕ → Result Encoding BadColumn
 encoding_at zero = Ok Plain
 encoding_at (suc (suc zero)) = Ok Run
 encoding_at (suc (suc (suc zero))) = Ok Dictionary
-encoding_at _ = Err 0
+encoding_at _ = Err at_encoding
 
--- the values of the body, which ends behind its last part; the encoding is the shortest
-unfoldable pub values_in : Encoding → ℕ → ℕ → List ℕ → Result (List (List ℕ)) ℕ
-values_in e end count bytes = do
+-- the values of a body that ends behind its last part
+unfoldable pub whole_body : Encoding → ℕ → ℕ → List ℕ → Result (List (List ℕ)) ℕ
+whole_body e end count bytes = do
   read ← body_at e end count bytes
-  vs ← ended end read
-  checked (code (encoding_of vs) == code e) 0 vs
+  ended end read
+
+-- the values of the body, where its form is the shortest
+unfoldable pub values_in : Encoding → ℕ → ℕ → List ℕ → Result (List (List ℕ)) BadColumn
+values_in e end count bytes = do
+  vs ← in_column (whole_body e end count bytes)
+  checked (code (encoding_of vs) == code e) is_longer vs
+
+-- a column of these bytes
+abbrev pub column_with : ℕ → Bool → List ℕ → List ℕ → TextColumn
+column_with encoding nulls bitmap body = record { encoding = encoding; nulls = nulls; bitmap = bitmap; body = body }
 
 -- the encoding, then the bitmap, then the body
-unfoldable pub rows_of : ℕ → TextColumn → Result (List (Option (List ℕ))) ℕ
+unfoldable pub rows_of : ℕ → TextColumn → Result (List (Option (List ℕ))) BadColumn
 rows_of rows column = do
   e ← encoding_at column.encoding
-  flags ← flags_at rows column.nulls column.bitmap
+  flags ← in_column (flags_at rows column.nulls column.bitmap)
   vs ← values_in e (length column.bitmap + length column.body) (present_count flags) column.body
   Ok (spread flags vs)

@@ -1,19 +1,15 @@
+//! Columns as bytes, and why there is none.
+
 ghost use Rattle.std.specs.Prelude.{◌≡◌};
 ghost use Rattle.tt_textcol.specs.declared.column.DecodeError.TheVariants as decode_errors;
 ghost use Rattle.tt_textcol.specs.declared.column.EncodeError.TheVariants as encode_errors;
 
+use crate::parts::PartError;
 use std::alloc::{AllocError, AllocFailed};
-use tt_value::Sequence;
-
-/// Where the bytes of a column have their first fault. The place counts through the bitmap and then
-/// the body; a fault of the encoding is at 0.
-#[derive(Clone, Copy, Debug, PartialEq, Eq)]
-pub struct BadColumn {
-    pub place: u64,
-}
+use tt_value::{BadColumn, FaultAt, Sequence};
 
 /// A column of texts, encoded.
-#[derive(Clone, Debug, Drop)]
+#[derive(Clone, Drop)]
 pub struct TextColumn {
     /// 0 plain, 2 run, 3 dictionary.
     pub encoding: u8,
@@ -26,7 +22,7 @@ pub struct TextColumn {
 }
 
 /// Why there is no column. Only want of memory can be the cause.
-#[derive(Debug, Drop)]
+#[derive(Drop)]
 pub enum EncodeError {
     Memory,
 }
@@ -48,7 +44,7 @@ impl<T: Drop> From<AllocFailed<T>> for EncodeError {
 }
 
 /// Why there are no rows: memory ran out, or the bytes are no column of so many rows.
-#[derive(Debug, Drop)]
+#[derive(Drop)]
 pub enum DecodeError {
     Memory,
     BadColumn(BadColumn),
@@ -62,10 +58,19 @@ impl From<AllocError> for DecodeError {
     }
 }
 
-impl<T: Drop> From<AllocFailed<T>> for DecodeError {
-    ghost from_gives = { λ _ e. e ≡ decode_errors.Memory };
+/// The fault of a part is that of its column.
+impl From<PartError> for DecodeError {
+    ghost use Rattle.tt_textcol.specs.TextReading.{decode_error};
 
-    fn from(_error: AllocFailed<T>) -> DecodeError {
-        DecodeError::Memory
+    ghost from_gives = { λ part e. e ≡ decode_error part };
+
+    fn from(error: PartError) -> DecodeError {
+        match error {
+            PartError::Memory => DecodeError::Memory,
+            PartError::At(place) => DecodeError::BadColumn(BadColumn {
+                place,
+                at: FaultAt::Byte,
+            }),
+        }
     }
 }

@@ -1,8 +1,10 @@
+//! The forms of a body.
+
 ghost use Rattle.std.specs.Prelude.{◌≡◌};
 ghost use Rattle.tt_textcol.specs.TextBody.{code as code_of};
 
 /// The three forms of a body of texts, by their codes. There is no frame of texts, whose code would be 1.
-#[derive(Clone, Copy, Debug, PartialEq, Eq)]
+#[derive(Clone, Copy, PartialEq, Eq)]
 pub enum Encoding {
     Plain,
     Run,

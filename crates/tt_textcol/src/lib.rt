@@ -11,9 +11,8 @@ mod rows;
 mod text_ref;
 mod writing;
 
-pub use column::{BadColumn, DecodeError, EncodeError, TextColumn};
-pub use rows::decode;
-pub use writing::encode;
-
-#[cfg(test)]
-mod tests;
+pub use column::{DecodeError, EncodeError, TextColumn};
+pub use rows::{decode, decode_parts};
+pub use text_ref::TextRef;
+pub use tt_value::{BadColumn, FaultAt};
+pub use writing::{encode, encode_refs};

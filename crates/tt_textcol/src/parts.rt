@@ -6,12 +6,35 @@ ghost use Rattle.std.specs.Int.{w16, w32};
 ghost use Rattle.tt_value.specs.values.Texts.{is_control as control_test};
 ghost use Rattle.tt_value.specs.columns.Packing.{bytes_for};
 ghost use Rattle.tt_value.specs.columns.Reading.{number_at, packed_at, count_at};
-ghost use Rattle.tt_textcol.specs.TextReading.{Gives, is_text, text_at};
+ghost use Rattle.tt_textcol.specs.TextReading.{GivesPart, is_text, text_at};
+ghost use Rattle.tt_textcol.specs.declared.parts.PartError.TheVariants as part_errors;
 
-use crate::column::{BadColumn, DecodeError};
 use crate::text_ref::TextRef;
-use std::alloc::Global;
+use std::alloc::{AllocError, AllocFailed, Global};
 use tt_value::packing;
+
+/// Why a part was not read: memory ran out, or it has a fault at that place of bitmap and body.
+#[derive(Drop)]
+pub enum PartError {
+    Memory,
+    At(u64),
+}
+
+impl From<AllocError> for PartError {
+    ghost from_gives = { λ _ e. e ≡ part_errors.Memory };
+
+    fn from(_error: AllocError) -> PartError {
+        PartError::Memory
+    }
+}
+
+impl<T: Drop> From<AllocFailed<T>> for PartError {
+    ghost from_gives = { λ _ e. e ≡ part_errors.Memory };
+
+    fn from(_error: AllocFailed<T>) -> PartError {
+        PartError::Memory
+    }
+}
 
 /// The place where what is left begins, if the bytes end at `end`.
 pub fn place(end: u64, bytes: &[u8]) -> u64
@@ -21,14 +44,14 @@ pub fn place(end: u64, bytes: &[u8]) -> u64
 }
 
 /// A fault at that place.
-pub fn bad(place: u64) -> DecodeError
-    ensures { result ≡ DecodeError.BadColumn (record { place = place }) }
+pub fn bad(place: u64) -> PartError
+    ensures { result ≡ PartError.At place }
 {
-    DecodeError::BadColumn(BadColumn { place })
+    PartError::At(place)
 }
 
-fn read_u16(end: u64, bytes: &[u8]) -> Result<(u16, &[u8]), DecodeError>
-    ensures { Gives (λ x. (x.0, x.1.now)) result (number_at w16 end bytes.now) }
+fn read_u16(end: u64, bytes: &[u8]) -> Result<(u16, &[u8]), PartError>
+    ensures { GivesPart (λ x. (x.0, x.1.now)) result (number_at w16 end bytes.now) }
 {
     if bytes.len() < 2 {
         return Err(bad(end));
@@ -40,8 +63,8 @@ fn read_u16(end: u64, bytes: &[u8]) -> Result<(u16, &[u8]), DecodeError>
 
 /// Four bytes, the least significant first, and what stands behind them. Where there are fewer the fault is at
 /// `end`.
-pub fn read_u32(end: u64, bytes: &[u8]) -> Result<(u32, &[u8]), DecodeError>
-    ensures { Gives (λ x. (x.0, x.1.now)) result (number_at w32 end bytes.now) }
+pub fn read_u32(end: u64, bytes: &[u8]) -> Result<(u32, &[u8]), PartError>
+    ensures { GivesPart (λ x. (x.0, x.1.now)) result (number_at w32 end bytes.now) }
 {
     if bytes.len() < 4 {
         return Err(bad(end));
@@ -79,8 +102,8 @@ fn text_of(bytes: &[u8]) -> Option<TextRef<'_>>
 
 /// A text with its length.
 #[tactic(auto, unfolding(crate::specs::TextReading::text_at))]
-pub fn read_text(end: u64, bytes: &[u8]) -> Result<(TextRef<'_>, &[u8]), DecodeError>
-    ensures { Gives (λ x. (x.0, x.1.now)) result (text_at end bytes.now) }
+pub fn read_text(end: u64, bytes: &[u8]) -> Result<(TextRef<'_>, &[u8]), PartError>
+    ensures { GivesPart (λ x. (x.0, x.1.now)) result (text_at end bytes.now) }
 {
     let (length, rest) = read_u16(end, bytes)?;
     let length = length as usize;
@@ -96,8 +119,8 @@ pub fn read_text(end: u64, bytes: &[u8]) -> Result<(TextRef<'_>, &[u8]), DecodeE
 
 /// A number of runs or of distinct values.
 #[tactic(auto, unfolding(tt_value::specs::columns::Reading::count_at))]
-pub fn read_count(end: u64, most: usize, bytes: &[u8]) -> Result<(u32, &[u8]), DecodeError>
-    ensures { Gives (λ x. (x.0, x.1.now)) result (count_at end most bytes.now) }
+pub fn read_count(end: u64, most: usize, bytes: &[u8]) -> Result<(u32, &[u8]), PartError>
+    ensures { GivesPart (λ x. (x.0, x.1.now)) result (count_at end most bytes.now) }
 {
     let (count, rest) = read_u32(end, bytes)?;
     if count as usize > most || (count == 0 && most != 0) {
@@ -122,9 +145,9 @@ pub fn read_packed(
     width: u32,
     count: usize,
     bytes: &[u8],
-) -> Result<(Vec<u64>, &[u8]), DecodeError>
+) -> Result<(Vec<u64>, &[u8]), PartError>
     requires { width ≤ 64 }
-    ensures { Gives (λ x. (x.0.items, x.1.now)) result (packed_at end width count bytes.now) }
+    ensures { GivesPart (λ x. (x.0.items, x.1.now)) result (packed_at end width count bytes.now) }
 {
     let size = packed_size(count, width);
     if (bytes.len() as u128) < size {

@@ -5,10 +5,9 @@ ghost use Rattle.std.specs.List.{list_all};
 ghost use Rattle.std.specs.Option.{option_map};
 ghost use Rattle.tt_value.specs.columns.Reading.{is_new, is_next, uses_each, values_of, looked_up, dictionary_values_at, packed_at, values_at, run_at, runs_at, run_values_at, entry_at, entries_at};
 ghost use Rattle.tt_textcol.specs.TextBody.{text_cmp};
-ghost use Rattle.tt_textcol.specs.TextReading.{Gives, text_at};
+ghost use Rattle.tt_textcol.specs.TextReading.{GivesPart, text_at};
 
-use crate::column::DecodeError;
-use crate::parts::{bad, place, read_count, read_packed, read_text, read_u32};
+use crate::parts::{PartError, bad, place, read_count, read_packed, read_text, read_u32};
 use crate::text_ref::TextRef;
 use std::alloc::{AllocError, Global};
 use tt_value::packing;
@@ -19,8 +18,8 @@ pub fn read_values(
     end: u64,
     count: usize,
     bytes: &[u8],
-) -> Result<(Vec<TextRef<'_>>, &[u8]), DecodeError>
-    ensures { Gives (λ x. (x.0.items, x.1.now)) result (values_at text_at text_cmp end count bytes.now) }
+) -> Result<(Vec<TextRef<'_>>, &[u8]), PartError>
+    ensures { GivesPart (λ x. (x.0.items, x.1.now)) result (values_at text_at text_cmp end count bytes.now) }
 {
     let mut values = Vec::with_capacity(alloc, count.min(bytes.len()))?;
     let mut rest = bytes;
@@ -49,8 +48,8 @@ fn read_run<'a>(
     left: usize,
     before: &Option<TextRef<'a>>,
     bytes: &'a [u8],
-) -> Result<((TextRef<'a>, u32), &'a [u8]), DecodeError>
-    ensures found { Gives (λ x. (x.0, x.1.now)) result (run_at text_at text_cmp end later left before.now bytes.now) }
+) -> Result<((TextRef<'a>, u32), &'a [u8]), PartError>
+    ensures found { GivesPart (λ x. (x.0, x.1.now)) result (run_at text_at text_cmp end later left before.now bytes.now) }
     ensures within { IfOk result (λ x. x.0.1 ≤ left) }
 {
     let (value, rest) = read_text(end, bytes)?;
@@ -85,8 +84,8 @@ fn read_runs(
     count: u32,
     most: usize,
     bytes: &[u8],
-) -> Result<(Vec<TextRef<'_>>, &[u8]), DecodeError>
-    ensures { Gives (λ x. (x.0.items, x.1.now)) result (runs_at text_at text_cmp end count most None bytes.now) }
+) -> Result<(Vec<TextRef<'_>>, &[u8]), PartError>
+    ensures { GivesPart (λ x. (x.0.items, x.1.now)) result (runs_at text_at text_cmp end count most None bytes.now) }
 {
     let mut values = Vec::with_capacity(alloc, most)?;
     let mut rest = bytes;
@@ -109,8 +108,8 @@ pub fn read_run_values(
     end: u64,
     most: usize,
     bytes: &[u8],
-) -> Result<(Vec<TextRef<'_>>, &[u8]), DecodeError>
-    ensures { Gives (λ x. (x.0.items, x.1.now)) result (run_values_at text_at text_cmp end most bytes.now) }
+) -> Result<(Vec<TextRef<'_>>, &[u8]), PartError>
+    ensures { GivesPart (λ x. (x.0.items, x.1.now)) result (run_values_at text_at text_cmp end most bytes.now) }
 {
     let (count, rest) = read_count(end, most, bytes)?;
     read_runs(alloc, end, count, most, rest)
@@ -131,8 +130,8 @@ fn read_entry<'a>(
     end: u64,
     before: &Option<TextRef<'a>>,
     bytes: &'a [u8],
-) -> Result<(TextRef<'a>, &'a [u8]), DecodeError>
-    ensures { Gives (λ x. (x.0, x.1.now)) result (entry_at text_at text_cmp end before.now bytes.now) }
+) -> Result<(TextRef<'a>, &'a [u8]), PartError>
+    ensures { GivesPart (λ x. (x.0, x.1.now)) result (entry_at text_at text_cmp end before.now bytes.now) }
 {
     let (value, rest) = read_text(end, bytes)?;
     if !is_below(before, &value) {
@@ -147,8 +146,8 @@ pub fn read_entries(
     end: u64,
     count: u32,
     bytes: &[u8],
-) -> Result<(Vec<TextRef<'_>>, &[u8]), DecodeError>
-    ensures { Gives (λ x. (x.0.items, x.1.now)) result (entries_at text_at text_cmp end count None bytes.now) }
+) -> Result<(Vec<TextRef<'_>>, &[u8]), PartError>
+    ensures { GivesPart (λ x. (x.0.items, x.1.now)) result (entries_at text_at text_cmp end count None bytes.now) }
 {
     let mut values = Vec::with_capacity(alloc, (count as usize).min(bytes.len()))?;
     let mut rest = bytes;
@@ -207,8 +206,8 @@ fn look_up<'a>(
     place: u64,
     entries: &[TextRef<'a>],
     indexes: &[u64],
-) -> Result<Vec<TextRef<'a>>, DecodeError>
-    ensures { Gives (λ v. v.items) result (looked_up place entries.now indexes.now) }
+) -> Result<Vec<TextRef<'a>>, PartError>
+    ensures { GivesPart (λ v. v.items) result (looked_up place entries.now indexes.now) }
 {
     match values_at_indexes(alloc, entries, indexes)? {
         None => Err(bad(place)),
@@ -228,8 +227,8 @@ pub fn read_dictionary_values(
     end: u64,
     most: usize,
     bytes: &[u8],
-) -> Result<(Vec<TextRef<'_>>, &[u8]), DecodeError>
-    ensures { Gives (λ x. (x.0.items, x.1.now)) result (dictionary_values_at text_at text_cmp end most bytes.now) }
+) -> Result<(Vec<TextRef<'_>>, &[u8]), PartError>
+    ensures { GivesPart (λ x. (x.0.items, x.1.now)) result (dictionary_values_at text_at text_cmp end most bytes.now) }
 {
     let (count, rest) = read_count(end, most, bytes)?;
     let (entries, rest) = read_entries(alloc, end, count, rest)?;

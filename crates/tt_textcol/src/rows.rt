@@ -4,17 +4,24 @@ ghost use Rattle.std.specs.Prelude.{◌≡◌, ◌+◌, ◌-◌, ◌*◌, ◌^�
 ghost use Rattle.std.specs.List.{list_any, AllByRecursion};
 ghost use Rattle.tt_value.specs.columns.Body.{present};
 ghost use Rattle.tt_value.specs.columns.Reading.{flags_at, has_flag, present_count, spread};
-ghost use Rattle.tt_textcol.specs.TextBody.{encoding_of, column_of, IsValue};
-ghost use Rattle.tt_textcol.specs.TextReading.{Gives, encoding_at, body_at, values_in, rows_of};
+ghost use Rattle.tt_textcol.specs.TextBody.{body, encoding_of, column_of, IsValue};
+ghost use Rattle.tt_textcol.specs.TextReading.{Gives, GivesPart, encoding_at, body_at, whole_body, values_in, column_with, rows_of};
 
 use crate::choice;
 use crate::column::{DecodeError, TextColumn};
 use crate::encoding::Encoding;
-use crate::parts::{bad, place, read_packed};
+use crate::parts::{PartError, bad, place, read_packed};
 use crate::reading::{read_dictionary_values, read_run_values, read_values};
 use crate::text_ref::TextRef;
 use std::alloc::{AllocError, Global};
-use tt_value::Text;
+use tt_value::{BadColumn, FaultAt, Text};
+
+/// A fault at the byte of the encoding.
+fn bad_encoding(at: FaultAt) -> BadColumn
+    ensures { result ≡ record { place = 0; at = at } }
+{
+    BadColumn { place: 0, at }
+}
 
 fn read_encoding(code: u8) -> Result<Encoding, DecodeError>
     ensures { Gives (λ e. e) result (encoding_at code) }
@@ -23,7 +30,7 @@ fn read_encoding(code: u8) -> Result<Encoding, DecodeError>
         0 => Ok(Encoding::Plain),
         2 => Ok(Encoding::Run),
         3 => Ok(Encoding::Dictionary),
-        _ => Err(bad(0)),
+        _ => Err(DecodeError::BadColumn(bad_encoding(FaultAt::Encoding))),
     }
 }
 
@@ -35,8 +42,8 @@ fn has_flag(flags: &[u64]) -> bool
 
 /// The flags of a bitmap: 1 for NULL.
 #[tactic(auto, unfolding(tt_value::specs::columns::Reading::flags_at))]
-fn read_flags(alloc: Global, rows: u32, nulls: bool, bitmap: &[u8]) -> Result<Vec<u64>, DecodeError>
-    ensures { Gives (λ v. v.items) result (flags_at rows nulls bitmap.now) }
+fn read_flags(alloc: Global, rows: u32, nulls: bool, bitmap: &[u8]) -> Result<Vec<u64>, PartError>
+    ensures { GivesPart (λ v. v.items) result (flags_at rows nulls bitmap.now) }
 {
     if !nulls {
         if !bitmap.is_empty() {
@@ -111,8 +118,8 @@ fn read_body(
     end: u64,
     count: usize,
     bytes: &[u8],
-) -> Result<(Vec<TextRef<'_>>, &[u8]), DecodeError>
-    ensures { Gives (λ x. (x.0.items, x.1.now)) result (body_at encoding end count bytes.now) }
+) -> Result<(Vec<TextRef<'_>>, &[u8]), PartError>
+    ensures { GivesPart (λ x. (x.0.items, x.1.now)) result (body_at encoding end count bytes.now) }
 {
     match encoding {
         Encoding::Plain => read_values(alloc, end, count, bytes),
@@ -121,7 +128,27 @@ fn read_body(
     }
 }
 
-/// The texts of the body, all of its bytes, where its form is the shortest.
+/// The texts of a body that ends behind its last part, and how long it is.
+#[tactic(auto, unfolding(crate::specs::TextReading::whole_body))]
+fn read_whole(
+    alloc: Global,
+    encoding: Encoding,
+    end: u64,
+    count: usize,
+    bytes: &[u8],
+) -> Result<Vec<TextRef<'_>>, PartError>
+    ensures values { GivesPart (λ v. v.items) result (whole_body encoding end count bytes.now) }
+    ensures length { IfOk result (λ v. length bytes.now ≡ length (body v.items encoding)) }
+{
+    bytes_fit(bytes);
+    let (values, rest) = read_body(alloc, encoding, end, count, bytes)?;
+    if !rest.is_empty() {
+        return Err(bad(place(end, rest)));
+    }
+    Ok(values)
+}
+
+/// The texts of the body, where its form is the shortest.
 #[tactic(auto, unfolding(crate::specs::TextReading::values_in))]
 fn read_all(
     alloc: Global,
@@ -132,30 +159,27 @@ fn read_all(
 ) -> Result<Vec<TextRef<'_>>, DecodeError>
     ensures { Gives (λ v. v.items) result (values_in encoding end count bytes.now) }
 {
-    let (values, rest) = read_body(alloc, encoding, end, count, bytes)?;
-    if !rest.is_empty() {
-        return Err(bad(place(end, rest)));
-    }
-    bytes_fit(bytes);
+    let values = read_whole(alloc, encoding, end, count, bytes)?;
     if !choice::is_shortest(alloc, encoding, bytes.len(), &values)? {
-        return Err(bad(0));
+        return Err(DecodeError::BadColumn(bad_encoding(FaultAt::Longer)));
     }
     Ok(values)
 }
 
-/// The rows of a column.
+/// The rows of a column whose bytes stand elsewhere, as in `decode`.
 #[tactic(auto, unfolding(crate::specs::TextReading::rows_of))]
-fn read_rows(
+pub fn decode_parts(
     alloc: Global,
     rows: u32,
-    column: &TextColumn,
+    encoding: u8,
+    nulls: bool,
+    bitmap: &[u8],
+    body: &[u8],
 ) -> Result<Vec<Option<Text>>, DecodeError>
-    ensures { Gives (λ v. v.items) result (rows_of rows column.now) }
+    ensures { Gives (λ v. v.items) result (rows_of rows (column_with encoding nulls bitmap.now body.now)) }
 {
-    let encoding = read_encoding(column.encoding)?;
-    let bitmap = column.bitmap.items();
-    let body = column.body.items();
-    let flags = read_flags(alloc, rows, column.nulls, bitmap)?;
+    let encoding = read_encoding(encoding)?;
+    let flags = read_flags(alloc, rows, nulls, bitmap)?;
     let end = bitmap.len() as u64 + body.len() as u64;
     let values = read_all(alloc, encoding, end, count_present(&flags), body)?;
     Ok(spread(alloc, &flags, &values)?)
@@ -175,7 +199,9 @@ pub fn decode(
     // What is read are so many rows, of values, and the column is their column.
     ensures only { IfOk result (λ v. (column.now ≡ column_of v.items) × (length v.items ≡ rows) × AllByRecursion IsValue (present v.items)) }
 {
-    bytes_fit(column.bitmap.items());
-    bytes_fit(column.body.items());
-    read_rows(alloc, rows, column)
+    let bitmap = column.bitmap.items();
+    let body = column.body.items();
+    bytes_fit(bitmap);
+    bytes_fit(body);
+    decode_parts(alloc, rows, column.encoding, column.nulls, bitmap, body)
 }

@@ -1,10 +1,12 @@
+//! A text that is not copied.
+
 ghost use Rattle.std.specs.Prelude.{◌≡◌, ◌≤◌, length, IfOk};
 ghost use Rattle.std.specs.Ordering.{as_partial_cmp, eq_by_cmp};
 ghost use Rattle.std.specs.Cmp.Rules.{comparing};
 ghost use Rattle.std.proofs.Common.{rules};
 ghost use Rattle.tt_value.specs.values.Texts.{IsText};
 ghost use Rattle.tt_textcol.specs.TextBody.{text_cmp};
-ghost use Rattle.tt_textcol.specs.TextLaws.{text_total};
+ghost use Rattle.std.specs.Cmp.Lexicographic.{nat_list_cmp_total};
 
 use std::alloc::{AllocError, Global};
 use std::cmp::Ordering;
@@ -75,7 +77,7 @@ impl<'a> TextRef<'a> {
 impl<'a> PartialEq for TextRef<'a> {
     ghost eq = { eq_by_cmp text_cmp };
 
-    ghost laws = { Prim.search (comparing, text_total, rules) };
+    ghost laws = { Prim.search (comparing, nat_list_cmp_total, rules) };
 
     fn eq(&self, other: &TextRef<'a>) -> bool {
         self.text.as_bytes() == other.text.as_bytes()
@@ -83,13 +85,13 @@ impl<'a> PartialEq for TextRef<'a> {
 }
 
 impl<'a> Eq for TextRef<'a> {
-    ghost laws = { Prim.search (comparing, text_total, rules) };
+    ghost laws = { Prim.search (comparing, nat_list_cmp_total, rules) };
 }
 
 impl<'a> PartialOrd for TextRef<'a> {
     ghost partial_cmp = { as_partial_cmp text_cmp };
 
-    ghost laws = { Prim.search (comparing, text_total, rules) };
+    ghost laws = { Prim.search (comparing, nat_list_cmp_total, rules) };
 
     fn partial_cmp(&self, other: &TextRef<'a>) -> Option<Ordering> {
         Some(self.cmp(other))
@@ -99,7 +101,7 @@ impl<'a> PartialOrd for TextRef<'a> {
 impl<'a> Ord for TextRef<'a> {
     ghost cmp = { text_cmp };
 
-    ghost total = { text_total };
+    ghost total = { nat_list_cmp_total };
 
     ghost matches_partial_cmp = { Prim.search (comparing, rules) };
 

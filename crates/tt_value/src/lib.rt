@@ -2,6 +2,7 @@
 #![tactic(auto)]
 
 pub mod bag;
+pub mod column;
 pub mod date;
 pub mod expression;
 pub mod name;
@@ -14,6 +15,7 @@ pub mod text;
 pub mod value;
 
 pub use bag::Bag;
+pub use column::{BadColumn, FaultAt};
 pub use date::write_date;
 pub use expression::{Addend, Expr, Factor, Sign, Term};
 pub use name::{ColumnName, Literal, Name, Number, Quoted, TableName};

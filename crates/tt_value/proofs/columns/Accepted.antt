@@ -16,25 +16,30 @@ use Rattle.std.proofs.lemmas.Option.{slice_get_within, get_or_from_slice_get}
 use Rattle.tt_value.specs.values.Order.{TiesAreSame}
 use Rattle.tt_value.specs.columns.Packing.{joined, digits, packed, bytes_for, width_of}
 use Rattle.tt_value.specs.columns.Body.{word, is_same, runs_after, runs_of, run_bytes, run_body, distinct, index_in, dictionary_body, null_flags, has_null, present, bitmap_of}
-use Rattle.tt_value.specs.columns.Reading.{◌>>=◌, checked, number_at, packed_at, ended, is_count, count_at, values_at, is_new, is_length, run_at, runs_at, run_values_at, is_next, entry_at, entries_at, uses_each, values_of, found, looked_up, dictionary_values_at, has_flag, flags_at, present_count, spread}
+use Rattle.tt_value.specs.columns.Reading.{◌>>=◌, checked, in_column, number_at, packed_at, ended, is_count, count_at, values_at, is_new, is_length, run_at, runs_at, run_values_at, is_next, entry_at, entries_at, uses_each, values_of, found, looked_up, dictionary_values_at, has_flag, flags_at, present_count, spread}
 use Rattle.tt_value.proofs.columns.Distinct.{Above, Ascends, has, above_more, distinct_ascends, has_distinct, same_ascending}
 use Rattle.tt_value.proofs.columns.Indexes.{found_index, member_at, place_of}
 use Rattle.tt_value.proofs.columns.Packing.{Fit, length-digits, digits-fit, packed_takes}
 
 -- ---- reading one part after the other
 
-pub same_ok : {A : Type 0} (x y : A) → (◌≡◌ {A = Result A ℕ} (Ok x) (Ok y)) → x ≡ y
+pub same_ok : {A F : Type 0} (x y : A) → (◌≡◌ {A = Result A F} (Ok x) (Ok y)) → x ≡ y
 same_ok x y e = cc
 
 -- both parts were read
-pub bound : {A B : Type 0} (r : Result A ℕ) (f : A → Result B ℕ) (y : B) → (r >>= f) ≡ Ok y → (x : A) × (r ≡ Ok x) × (f x ≡ Ok y)
+pub bound : {A B F : Type 0} (r : Result A F) (f : A → Result B F) (y : B) → (r >>= f) ≡ Ok y → (x : A) × (r ≡ Ok x) × (f x ≡ Ok y)
 bound (Ok x) f y e = (x, refl, e)
 bound (Err place) f y e = absurd cc
 
 -- the rule held
-pub held : {A : Type 0} (b : Bool) (place : ℕ) (x y : A) → checked b place x ≡ Ok y → (b ≡ true) × (x ≡ y)
+pub held : {A F : Type 0} (b : Bool) (place : F) (x y : A) → checked b place x ≡ Ok y → (b ≡ true) × (x ≡ y)
 held true place x y e = (refl, same_ok x y e)
 held false place x y e = absurd cc
+
+-- what was read in a column
+pub in_column_taken : {A : Type 0} (r : Result A ℕ) (x : A) → in_column r ≡ Ok x → r ≡ Ok x
+in_column_taken (Ok y) x e = ap Ok (same_ok y x e)
+in_column_taken (Err place) x e = absurd cc
 
 -- enough bytes were there
 pub enough : {A : Type 0} (b : Bool) (place : ℕ) (r : Result A ℕ) (y : A) → cond b (Err place) r ≡ Ok y → (b ≡ false) × (r ≡ Ok y)

@@ -6,16 +6,33 @@ use Rattle.std.specs.List.{list_any}
 use Rattle.std.specs.Int.{Width, w32, byte_len, from_le_bytes}
 use Rattle.std.specs.declared.cmp.Ordering.{Ordering}
 use Rattle.std.specs.Ordering.{is_eq, is_lt}
+use Rattle.tt_value.specs.declared.column.BadColumn.{BadColumn}
+use Rattle.tt_value.specs.declared.column.FaultAt.TheVariants.{Byte, Encoding, Longer}
 use Rattle.tt_value.specs.columns.Packing.{joined, digits, bytes_for, width_of}
 
 infixl 10 ◌>>=◌
-abbrev pub ◌>>=◌ : {A B : Type 0} → Result A ℕ → (A → Result B ℕ) → Result B ℕ
+abbrev pub ◌>>=◌ : {A B F : Type 0} → Result A F → (A → Result B F) → Result B F
 (Ok x) >>= f = f x
-(Err place) >>= f = Err place
+(Err fault) >>= f = Err fault
 
 -- a value, where a rule holds
-abbrev pub checked : {A : Type 0} → Bool → ℕ → A → Result A ℕ
-checked holds place x = if holds then Ok x else Err place
+abbrev pub checked : {A F : Type 0} → Bool → F → A → Result A F
+checked holds fault x = if holds then Ok x else Err fault
+
+-- the faults of a column: at a byte of bitmap and body, and at the byte of the encoding, before the body or behind it
+abbrev pub at_byte : ℕ → BadColumn
+at_byte place = record { place = place; at = Byte }
+
+abbrev pub at_encoding : BadColumn
+at_encoding = record { place = 0; at = Encoding }
+
+abbrev pub is_longer : BadColumn
+is_longer = record { place = 0; at = Longer }
+
+-- the fault of a part, as that of its column
+abbrev pub in_column : {A : Type 0} → Result A ℕ → Result A BadColumn
+in_column (Ok x) = Ok x
+in_column (Err place) = Err (at_byte place)
 
 abbrev pub number_at : Width → ℕ → List ℕ → Result (ℕ × List ℕ) ℕ
 number_at w end bytes = if nat_lt (length bytes) (byte_len w) then Err end else Ok (from_le_bytes w (take (byte_len w) bytes), drop (byte_len w) bytes)

@@ -2,7 +2,7 @@ use Rattle.std.proofs.Common.{[], length, ap, ◌∙◌, arith}
 use Rattle.tt_value.specs.columns.Packing.{width_of}
 use Rattle.tt_value.proofs.columns.Indexes.{distinct_le, indexes_fit}
 use Rattle.tt_textcol.specs.TextBody.{text_cmp}
-use Rattle.tt_textcol.specs.TextLaws.{text_total, text_ties}
+use Rattle.tt_textcol.proofs.TextLaws.{text_total, text_ties}
 use Rattle.tt_textcol.proofs.bodies.dictionary_body.Goals as goal
 
 pub overflow_cast-entries : goal.overflow_cast-entries

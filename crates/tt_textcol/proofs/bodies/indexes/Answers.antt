@@ -4,7 +4,7 @@ use Rattle.tt_value.specs.columns.Body.{index_in}
 use Rattle.tt_value.proofs.columns.Distinct.{Ascends, has, distinct_ascends}
 use Rattle.tt_value.proofs.columns.Indexes.{found_index, not_missing, member_of_distinct}
 use Rattle.tt_textcol.specs.TextBody.{text_cmp}
-use Rattle.tt_textcol.specs.TextLaws.{text_total, text_ties}
+use Rattle.tt_textcol.proofs.TextLaws.{text_total, text_ties}
 use Rattle.tt_textcol.proofs.bodies.indexes.Goals as goal
 
 pub unreachable-requires : goal.unreachable-requires

@@ -7,7 +7,7 @@ use Rattle.tt_value.proofs.columns.Counting.{dictionary_grows}
 use Rattle.tt_value.proofs.columns.Indexes.{distinct_le}
 use Rattle.tt_textcol.specs.declared.encoding.Encoding.TheVariants.{Dictionary}
 use Rattle.tt_textcol.specs.TextBody.{text_bytes, text_cmp, body}
-use Rattle.tt_textcol.specs.TextLaws.{text_total, text_ties}
+use Rattle.tt_textcol.proofs.TextLaws.{text_total, text_ties}
 use Rattle.tt_textcol.proofs.Lengths.{length-dictionary, dictionary_long}
 use Rattle.tt_textcol.proofs.choice.dictionary.Goals as goal
 

@@ -3,7 +3,7 @@ use Rattle.std.specs.List.Sorted.{IsPermutation}
 use Rattle.std.proofs.lemmas.List.Filters.{dedup_is}
 use Rattle.tt_value.proofs.columns.Distinct.{distinct_from_sorted}
 use Rattle.tt_textcol.specs.TextBody.{text_cmp}
-use Rattle.tt_textcol.specs.TextLaws.{text_total, text_ties}
+use Rattle.tt_textcol.proofs.TextLaws.{text_total, text_ties}
 use Rattle.tt_textcol.proofs.choice.distinct_values.Goals as goal
 
 pub returns : goal.returns

@@ -1,9 +1,11 @@
+//! Columns of integers and dates: their bytes and their faults, worked out by hand.
+
 ghost use Rattle.std.specs.Prelude.{◌≢◌, ◌<◌, ◌^◌, length};
 
-use super::*;
 use std::alloc::Global;
 use std::process::Abort;
 use std::test::*;
+use tt_intcol::{BadColumn, DecodeError, FaultAt, IntColumn, decode, encode};
 use tt_value::{Kind, Sequence};
 
 /// Encodes integers, compares each part, and reads the rows back.
@@ -17,12 +19,14 @@ fn encodes(
 ) -> Result<(), Fail>
     requires { length rows.now < 2 ^ 32 }
 {
-    let column = encode(alloc, Kind::Int, rows)?;
+    let column = encode(alloc, Kind::Int, rows).ok().ok_or("no memory")?;
     assert_eq!(rt; column.encoding, encoding);
     assert_eq!(rt; column.nulls, !bitmap.is_empty());
     assert_eq!(rt; column.bitmap.items(), bitmap);
     assert_eq!(rt; column.body.items(), body);
-    let read = decode(alloc, Kind::Int, rows.len() as u32, &column)?;
+    let read = decode(alloc, Kind::Int, rows.len() as u32, &column)
+        .ok()
+        .ok_or("not read")?;
     assert_eq!(rt; read.as_slice(), rows);
     Ok(())
 }
@@ -98,14 +102,30 @@ fn column(
     })
 }
 
-/// The place at which a column is refused.
-fn refused(alloc: Global, kind: Kind, rows: u32, column: &IntColumn) -> Result<Option<u64>, Fail>
+/// A fault at that byte of bitmap and body.
+fn byte(place: u64) -> Option<BadColumn> {
+    let at = FaultAt::Byte;
+    Some(BadColumn { place, at })
+}
+
+/// A fault at the byte of the encoding.
+fn encoding(at: FaultAt) -> Option<BadColumn> {
+    Some(BadColumn { place: 0, at })
+}
+
+/// Where a column is refused.
+fn refused(
+    alloc: Global,
+    kind: Kind,
+    rows: u32,
+    column: &IntColumn,
+) -> Result<Option<BadColumn>, Fail>
     requires { kind ≢ Kind.Varchar }
 {
     match decode(alloc, kind, rows, column) {
         Ok(_) => Ok(None),
-        Err(DecodeError::BadColumn(bad)) => Ok(Some(bad.place)),
-        Err(DecodeError::Memory) => Ok(Some(u64::MAX)),
+        Err(DecodeError::BadColumn(bad)) => Ok(Some(bad)),
+        Err(DecodeError::Memory) => Ok(byte(u64::MAX)),
     }
 }
 
@@ -113,42 +133,42 @@ fn refused(alloc: Global, kind: Kind, rows: u32, column: &IntColumn) -> Result<O
 fn a_fault_has_the_place_of_its_part(rt: HostRuntime) -> Result<(), Fail> {
     let alloc = rt.alloc();
     // one date: 31 December 9999 and the day behind it, 1 January 1 and the day before it
-    let dates: [([u8; 4], Option<u64>); 4] = [
+    let dates: [([u8; 4], Option<BadColumn>); 4] = [
         ([160, 192, 44, 0], None),
-        ([161, 192, 44, 0], Some(0)),
+        ([161, 192, 44, 0], byte(0)),
         ([198, 6, 245, 255], None),
-        ([197, 6, 245, 255], Some(0)),
+        ([197, 6, 245, 255], byte(0)),
     ];
     for (body, place) in dates {
         let column = column(alloc, 0, false, &[], &body)?;
-        assert_eq!(rt; refused(alloc, Kind::Date, 1, &column)?, place);
+        assert!(rt; refused(alloc, Kind::Date, 1, &column)? == place);
     }
     // three integers: the encoding, whether there is a NULL, the bitmap, the body, and the place
     let frame: &[u8] = &[1, 0, 0, 0, 0, 0, 0, 0, 1, 5];
-    let ints: [(u8, bool, &[u8], &[u8], Option<u64>); 23] = [
+    let ints: [(u8, bool, &[u8], &[u8], Option<BadColumn>); 23] = [
         (1, false, &[], frame, None),
         // another encoding
-        (4, false, &[], frame, Some(0)),
+        (4, false, &[], frame, encoding(FaultAt::Encoding)),
         // a byte is missing: the end
-        (1, false, &[], &[1, 0, 0, 0, 0, 0, 0, 0, 1], Some(9)),
-        (1, false, &[], &[1, 0, 0, 0], Some(4)),
-        (1, false, &[], &[1, 0, 0, 0, 0, 0, 0, 0, 65], Some(9)),
-        (0, true, &[1], &[1, 0, 0, 0, 0, 0, 0, 0, 2, 0, 0], Some(12)),
+        (1, false, &[], &[1, 0, 0, 0, 0, 0, 0, 0, 1], byte(9)),
+        (1, false, &[], &[1, 0, 0, 0], byte(4)),
+        (1, false, &[], &[1, 0, 0, 0, 0, 0, 0, 0, 65], byte(9)),
+        (0, true, &[1], &[1, 0, 0, 0, 0, 0, 0, 0, 2, 0, 0], byte(12)),
         // a byte too many: that byte
-        (1, false, &[], &[1, 0, 0, 0, 0, 0, 0, 0, 1, 5, 0], Some(10)),
+        (1, false, &[], &[1, 0, 0, 0, 0, 0, 0, 0, 1, 5, 0], byte(10)),
         // a bit behind the last number, a width one too great, no difference 0: the packed numbers
-        (1, false, &[], &[1, 0, 0, 0, 0, 0, 0, 0, 1, 13], Some(9)),
-        (1, false, &[], &[1, 0, 0, 0, 0, 0, 0, 0, 2, 17], Some(9)),
-        (1, false, &[], &[1, 0, 0, 0, 0, 0, 0, 0, 1, 7], Some(9)),
+        (1, false, &[], &[1, 0, 0, 0, 0, 0, 0, 0, 1, 13], byte(9)),
+        (1, false, &[], &[1, 0, 0, 0, 0, 0, 0, 0, 2, 17], byte(9)),
+        (1, false, &[], &[1, 0, 0, 0, 0, 0, 0, 0, 1, 7], byte(9)),
         // a flag without a NULL, an unused bit, a bitmap without a flag, a bitmap too long
-        (1, true, &[0], frame, Some(0)),
-        (1, true, &[9], frame, Some(0)),
-        (1, false, &[0], frame, Some(0)),
-        (1, true, &[1, 0], frame, Some(1)),
+        (1, true, &[0], frame, byte(0)),
+        (1, true, &[9], frame, byte(0)),
+        (1, false, &[0], frame, byte(0)),
+        (1, true, &[1, 0], frame, byte(1)),
         // a frame of no values
-        (1, true, &[7], frame, Some(0)),
+        (1, true, &[7], frame, encoding(FaultAt::Encoding)),
         // no runs, two runs of one value, a run too long, runs that are too short
-        (2, false, &[], &[0, 0, 0, 0], Some(0)),
+        (2, false, &[], &[0, 0, 0, 0], byte(0)),
         (
             2,
             false,
@@ -156,21 +176,21 @@ fn a_fault_has_the_place_of_its_part(rt: HostRuntime) -> Result<(), Fail> {
             &[
                 2, 0, 0, 0, 5, 0, 0, 0, 0, 0, 0, 0, 1, 0, 0, 0, 5, 0, 0, 0, 0, 0, 0, 0, 2, 0, 0, 0,
             ],
-            Some(16),
+            byte(16),
         ),
         (
             2,
             false,
             &[],
             &[1, 0, 0, 0, 5, 0, 0, 0, 0, 0, 0, 0, 4, 0, 0, 0],
-            Some(12),
+            byte(12),
         ),
         (
             2,
             false,
             &[],
             &[1, 0, 0, 0, 5, 0, 0, 0, 0, 0, 0, 0, 2, 0, 0, 0],
-            Some(12),
+            byte(12),
         ),
         // entries that do not ascend, an entry that is not used, an index past the last entry
         (
@@ -180,7 +200,7 @@ fn a_fault_has_the_place_of_its_part(rt: HostRuntime) -> Result<(), Fail> {
             &[
                 2, 0, 0, 0, 5, 0, 0, 0, 0, 0, 0, 0, 5, 0, 0, 0, 0, 0, 0, 0, 5,
             ],
-            Some(12),
+            byte(12),
         ),
         (
             3,
@@ -189,7 +209,7 @@ fn a_fault_has_the_place_of_its_part(rt: HostRuntime) -> Result<(), Fail> {
             &[
                 2, 0, 0, 0, 5, 0, 0, 0, 0, 0, 0, 0, 6, 0, 0, 0, 0, 0, 0, 0, 0,
             ],
-            Some(20),
+            byte(20),
         ),
         (
             3,
@@ -199,7 +219,7 @@ fn a_fault_has_the_place_of_its_part(rt: HostRuntime) -> Result<(), Fail> {
                 3, 0, 0, 0, 5, 0, 0, 0, 0, 0, 0, 0, 6, 0, 0, 0, 0, 0, 0, 0, 7, 0, 0, 0, 0, 0, 0, 0,
                 52,
             ],
-            Some(28),
+            byte(28),
         ),
         // not the shortest: plain, where the frame is shorter
         (
@@ -209,12 +229,12 @@ fn a_fault_has_the_place_of_its_part(rt: HostRuntime) -> Result<(), Fail> {
             &[
                 2, 0, 0, 0, 0, 0, 0, 0, 1, 0, 0, 0, 0, 0, 0, 0, 2, 0, 0, 0, 0, 0, 0, 0,
             ],
-            Some(0),
+            encoding(FaultAt::Longer),
         ),
     ];
     for (encoding, nulls, bitmap, body, place) in ints {
         let column = column(alloc, encoding, nulls, bitmap, body)?;
-        assert_eq!(rt; refused(alloc, Kind::Int, 3, &column)?, place);
+        assert!(rt; refused(alloc, Kind::Int, 3, &column)? == place);
     }
     Ok(())
 }
@@ -223,7 +243,7 @@ fn a_fault_has_the_place_of_its_part(rt: HostRuntime) -> Result<(), Fail> {
 fn is_exact(alloc: Global, rt: &impl Abort, rows: u32, column: &IntColumn) -> Result<(), Fail> {
     match decode(alloc, Kind::Int, rows, column) {
         Ok(values) => {
-            let again = encode(alloc, Kind::Int, &values)?;
+            let again = encode(alloc, Kind::Int, &values).ok().ok_or("no memory")?;
             assert_eq!(rt; again.encoding, column.encoding);
             assert_eq!(rt; again.nulls, column.nulls);
             assert_eq!(rt; again.bitmap.items(), column.bitmap.items());

@@ -1,15 +1,21 @@
-use super::*;
+//! Columns of texts: their bytes and their faults, worked out by hand.
+
 use std::alloc::Global;
 use std::process::Abort;
 use std::test::Fail;
+use tt_textcol::{BadColumn, DecodeError, FaultAt, TextColumn, decode, encode};
 use tt_value::{Sequence, Text};
+
+fn text_of(alloc: Global, text: &str) -> Result<Text, Fail> {
+    Ok(Text::from_str(alloc, text).ok().ok_or("no text")?)
+}
 
 fn rows_of(alloc: Global, texts: &[Option<&str>]) -> Result<Vec<Option<Text>>, Fail> {
     let mut rows = Vec::new(alloc);
     for text in texts {
         match text {
             None => rows.push(None)?,
-            Some(text) => rows.push(Some(Text::from_str(alloc, text)?))?,
+            Some(text) => rows.push(Some(text_of(alloc, text)?))?,
         }
     }
     Ok(rows)
@@ -41,13 +47,15 @@ fn encodes(
 ) -> Result<(), Fail> {
     let rows = rows_of(alloc, texts)?;
     assert!(rt; rows.len() < 100_000);
-    let column = encode(alloc, &rows)?;
+    let column = encode(alloc, &rows).ok().ok_or("no memory")?;
     assert_eq!(rt; column.encoding, encoding);
     assert_eq!(rt; column.nulls, !bitmap.is_empty());
     assert_eq!(rt; column.bitmap.items(), bitmap);
     assert_eq!(rt; column.body.items(), body);
-    let read = decode(alloc, rows.len() as u32, &column)?;
-    assert_eq!(rt; read, rows);
+    let read = decode(alloc, rows.len() as u32, &column)
+        .ok()
+        .ok_or("not read")?;
+    assert!(rt; read == rows);
     Ok(())
 }
 
@@ -109,11 +117,12 @@ fn the_longest_text_and_the_most_rows(rt: HostRuntime) -> Result<(), Fail> {
     }
     let rows = rows_of(alloc, &[Some(text.as_str())])?;
     assert_eq!(rt; rows.len(), 1);
-    let column = encode(alloc, &rows)?;
+    let column = encode(alloc, &rows).ok().ok_or("no memory")?;
     assert_eq!(rt; column.body.len(), 65_537);
     assert_eq!(rt; column.body.get(0), Some(&255));
     assert_eq!(rt; column.body.get(1), Some(&255));
-    assert_eq!(rt; decode(alloc, 1, &column)?, rows);
+    let read = decode(alloc, 1, &column).ok().ok_or("not read")?;
+    assert!(rt; read == rows);
     let mut texts = Vec::new(alloc);
     for _turn in 0..65_536 {
         texts.push(Some("a"))?;
@@ -121,12 +130,23 @@ fn the_longest_text_and_the_most_rows(rt: HostRuntime) -> Result<(), Fail> {
     encodes(alloc, &rt, &texts, 3, &[], &[1, 0, 0, 0, 1, 0, 97])
 }
 
-/// The place at which a column is refused.
-fn place_of(alloc: Global, rows: u32, column: &TextColumn) -> Option<u64> {
+/// A fault at that byte of bitmap and body.
+fn byte(place: u64) -> Option<BadColumn> {
+    let at = FaultAt::Byte;
+    Some(BadColumn { place, at })
+}
+
+/// A fault at the byte of the encoding.
+fn encoding(at: FaultAt) -> Option<BadColumn> {
+    Some(BadColumn { place: 0, at })
+}
+
+/// Where a column is refused.
+fn refused(alloc: Global, rows: u32, column: &TextColumn) -> Option<BadColumn> {
     match decode(alloc, rows, column) {
         Ok(_) => None,
-        Err(DecodeError::BadColumn(bad)) => Some(bad.place),
-        Err(DecodeError::Memory) => Some(u64::MAX),
+        Err(DecodeError::BadColumn(bad)) => Some(bad),
+        Err(DecodeError::Memory) => byte(u64::MAX),
     }
 }
 
@@ -135,40 +155,64 @@ fn a_fault_has_the_place_of_its_part(rt: HostRuntime) -> Result<(), Fail> {
     let cases = [
         // two texts, and encodings that there are not
         (2, 0, None, &[1, 0, 97, 1, 0, 98][..], None),
-        (2, 1, None, &[1, 0, 97, 1, 0, 98], Some(0)),
-        (2, 4, None, &[1, 0, 97, 1, 0, 98], Some(0)),
+        (
+            2,
+            1,
+            None,
+            &[1, 0, 97, 1, 0, 98],
+            encoding(FaultAt::Encoding),
+        ),
+        (
+            2,
+            4,
+            None,
+            &[1, 0, 97, 1, 0, 98],
+            encoding(FaultAt::Encoding),
+        ),
         // a text that is longer than what is left: the end
-        (2, 0, None, &[1, 0, 97, 9, 0, 98], Some(6)),
+        (2, 0, None, &[1, 0, 97, 9, 0, 98], byte(6)),
         // a control character, DEL, a byte that is no UTF-8, and an overlong form: the text with its length
-        (2, 0, None, &[1, 0, 97, 1, 0, 31], Some(3)),
-        (2, 0, None, &[1, 0, 97, 1, 0, 127], Some(3)),
-        (2, 0, None, &[1, 0, 97, 1, 0, 255], Some(3)),
-        (2, 0, None, &[1, 0, 97, 2, 0, 0xc1, 0x81], Some(3)),
+        (2, 0, None, &[1, 0, 97, 1, 0, 31], byte(3)),
+        (2, 0, None, &[1, 0, 97, 1, 0, 127], byte(3)),
+        (2, 0, None, &[1, 0, 97, 1, 0, 255], byte(3)),
+        (2, 0, None, &[1, 0, 97, 2, 0, 0xc1, 0x81], byte(3)),
         // a byte too many
-        (2, 0, None, &[1, 0, 97, 1, 0, 98, 0], Some(6)),
+        (2, 0, None, &[1, 0, 97, 1, 0, 98, 0], byte(6)),
         // behind a bitmap
         (3, 0, Some(&[2][..]), &[1, 0, 97, 1, 0, 98], None),
-        (3, 0, Some(&[2]), &[1, 0, 97, 1, 0, 31], Some(4)),
+        (3, 0, Some(&[2]), &[1, 0, 97, 1, 0, 31], byte(4)),
         // a flag without a NULL, an unused bit, no bitmap, a bitmap too long
-        (2, 0, Some(&[0]), &[1, 0, 97, 1, 0, 98], Some(0)),
-        (3, 0, Some(&[10]), &[1, 0, 97, 1, 0, 98], Some(0)),
-        (3, 0, Some(&[]), &[1, 0, 97, 1, 0, 98], Some(0)),
-        (3, 0, Some(&[2, 0]), &[1, 0, 97, 1, 0, 98], Some(1)),
+        (2, 0, Some(&[0]), &[1, 0, 97, 1, 0, 98], byte(0)),
+        (3, 0, Some(&[10]), &[1, 0, 97, 1, 0, 98], byte(0)),
+        (3, 0, Some(&[]), &[1, 0, 97, 1, 0, 98], byte(0)),
+        (3, 0, Some(&[2, 0]), &[1, 0, 97, 1, 0, 98], byte(1)),
         // not the shortest: three texts as they are, as a run, and two as a dictionary
         (
             3,
             0,
             None,
             &[2, 0, 97, 97, 2, 0, 97, 97, 2, 0, 97, 97],
-            Some(0),
+            encoding(FaultAt::Longer),
         ),
-        (3, 2, None, &[1, 0, 0, 0, 2, 0, 97, 97, 3, 0, 0, 0], Some(0)),
-        (2, 3, None, &[1, 0, 0, 0, 2, 0, 97, 97], Some(0)),
+        (
+            3,
+            2,
+            None,
+            &[1, 0, 0, 0, 2, 0, 97, 97, 3, 0, 0, 0],
+            encoding(FaultAt::Longer),
+        ),
+        (
+            2,
+            3,
+            None,
+            &[1, 0, 0, 0, 2, 0, 97, 97],
+            encoding(FaultAt::Longer),
+        ),
     ];
     for (rows, encoding, bitmap, body, place) in cases {
         let bits = bitmap.unwrap_or(&[]);
         let column = column_of(rt.alloc(), encoding, bitmap.is_some(), bits, body)?;
-        assert_eq!(rt; place_of(rt.alloc(), rows, &column), place, "{body:?}");
+        assert!(rt; refused(rt.alloc(), rows, &column) == place, "{body:?}");
     }
     Ok(())
 }
@@ -184,66 +228,66 @@ fn runs_and_dictionaries_have_one_form(rt: HostRuntime) -> Result<(), Fail> {
             None,
         ),
         // no run, and more than texts
-        (64, 2, &[0, 0, 0, 0], Some(0)),
-        (64, 2, &[65, 0, 0, 0, 1, 0, 97], Some(0)),
+        (64, 2, &[0, 0, 0, 0], byte(0)),
+        (64, 2, &[65, 0, 0, 0, 1, 0, 97], byte(0)),
         // a run that joins the one before
         (
             64,
             2,
             &[2, 0, 0, 0, 1, 0, 97, 32, 0, 0, 0, 1, 0, 97, 32, 0, 0, 0],
-            Some(11),
+            byte(11),
         ),
         // lengths 0, past the number of texts, and short of it at the last
-        (64, 2, &[2, 0, 0, 0, 1, 0, 97, 0, 0, 0, 0], Some(7)),
-        (64, 2, &[2, 0, 0, 0, 1, 0, 97, 65, 0, 0, 0], Some(7)),
+        (64, 2, &[2, 0, 0, 0, 1, 0, 97, 0, 0, 0, 0], byte(7)),
+        (64, 2, &[2, 0, 0, 0, 1, 0, 97, 65, 0, 0, 0], byte(7)),
         (
             64,
             2,
             &[2, 0, 0, 0, 1, 0, 97, 32, 0, 0, 0, 1, 0, 98, 31, 0, 0, 0],
-            Some(14),
+            byte(14),
         ),
         // seven texts of two
         (7, 3, &[2, 0, 0, 0, 2, 0, 97, 97, 2, 0, 98, 98, 0x55], None),
         // more distinct ones than texts
-        (7, 3, &[8, 0, 0, 0, 2, 0, 97, 97], Some(0)),
+        (7, 3, &[8, 0, 0, 0, 2, 0, 97, 97], byte(0)),
         // the same twice, and one below the one before
         (
             7,
             3,
             &[2, 0, 0, 0, 2, 0, 97, 97, 2, 0, 97, 97, 0x55],
-            Some(8),
+            byte(8),
         ),
         (
             7,
             3,
             &[2, 0, 0, 0, 2, 0, 98, 98, 2, 0, 97, 97, 0x55],
-            Some(8),
+            byte(8),
         ),
         // one that no index names, a bit behind the last index, a byte too many
-        (7, 3, &[2, 0, 0, 0, 2, 0, 97, 97, 2, 0, 98, 98, 0], Some(12)),
+        (7, 3, &[2, 0, 0, 0, 2, 0, 97, 97, 2, 0, 98, 98, 0], byte(12)),
         (
             7,
             3,
             &[2, 0, 0, 0, 2, 0, 97, 97, 2, 0, 98, 98, 0xd5],
-            Some(12),
+            byte(12),
         ),
         (
             7,
             3,
             &[2, 0, 0, 0, 2, 0, 97, 97, 2, 0, 98, 98, 0x55, 0],
-            Some(13),
+            byte(13),
         ),
         // of three texts the one of number 3
         (
             7,
             3,
             &[3, 0, 0, 0, 1, 0, 97, 1, 0, 98, 1, 0, 99, 0b1110_0100, 0],
-            Some(13),
+            byte(13),
         ),
     ];
     for (rows, encoding, body, place) in cases {
         let column = column_of(rt.alloc(), encoding, false, &[], body)?;
-        assert_eq!(rt; place_of(rt.alloc(), rows, &column), place, "{body:?}");
+        assert!(rt; refused(rt.alloc(), rows, &column) == place, "{body:?}");
     }
     Ok(())
 }
@@ -262,7 +306,7 @@ fn is_refused_or_exact(
             assert!(rt; u128::from(bad.place) <= bytes);
         }
         Ok(read) => {
-            let again = encode(alloc, &read)?;
+            let again = encode(alloc, &read).ok().ok_or("no memory")?;
             assert_eq!(rt; again.bitmap.items(), column.bitmap.items());
             assert_eq!(rt; again.body.items(), column.body.items());
             assert_eq!(rt; again.encoding, column.encoding);
@@ -296,7 +340,7 @@ fn each_cut_is_refused_and_each_change_has_one_spelling(rt: HostRuntime) -> Resu
         for (end, _byte) in body.iter().enumerate() {
             let cut = column_of(rt.alloc(), encoding, nulls, bitmap, &body[..end])?;
             let place = bitmap.len() as u64 + end as u64;
-            assert_eq!(rt; place_of(rt.alloc(), rows, &cut), Some(place));
+            assert!(rt; refused(rt.alloc(), rows, &cut) == byte(place));
             for byte in 0..=255 {
                 let body = with_byte(rt.alloc(), body, end, byte)?;
                 let changed = column_of(rt.alloc(), encoding, nulls, bitmap, &body)?;

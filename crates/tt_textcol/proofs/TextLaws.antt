@@ -1,6 +1,6 @@
 -- The order of texts is total, and texts that tie are the same.
 use Rattle.std.specs.Cmp.{IsTotalOrder}
-use Rattle.std.proofs.lemmas.Cmp.{nat_list_cmp_total}
+use Rattle.std.specs.Cmp.Lexicographic.{nat_list_cmp_total}
 use Rattle.std.proofs.lemmas.Map.Lookups.{exact_bytes}
 use Rattle.tt_value.specs.values.Order.{TiesAreSame}
 use Rattle.tt_textcol.specs.TextBody.{text_cmp}

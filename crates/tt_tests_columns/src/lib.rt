@@ -1,0 +1,7 @@
+//! Tests of columns, zones and partitions.
+#![tactic(auto)]
+
+#[cfg(test)]
+mod ints;
+#[cfg(test)]
+mod texts;
