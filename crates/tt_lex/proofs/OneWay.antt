@@ -14,7 +14,7 @@ use Rattle.tt_lex.specs.declared.TokenKind.{TokenKind}
 use Rattle.tt_lex.specs.declared.TokenKind.TheVariants as kinds
 use Rattle.tt_lex.specs.declared.LexFault.{LexFault}
 use Rattle.tt_lex.specs.declared.LexFault.TheVariants.{BadByte, UnclosedText, UnclosedComment, BackslashInText, TextTooLong}
-use Rattle.tt_lex.specs.Lexis.{Piece, Blank, LineComment, BlockComment, Word, Number, Quoted, Sign, is_white, is_word_start, is_word_part, is_line_byte, is_text_byte, is_sign, is_quote, doubled, spelling, NotClosed, StopsAt, IsPiece, EndsBefore, RefusesInText, IsQuotedAt, BeginsNothing, IsFault, spelled, ArePieces, kind_of, tokens_from, HasTokens, HasFault, IfFault, GivesTokens, GivesFault}
+use Rattle.tt_lex.specs.Lexis.{Piece, Blank, LineComment, BlockComment, Word, Number, Quoted, Sign, is_white, is_word_start, is_word_part, is_line_byte, is_text_byte, is_sign, is_quote, doubled, spelling, NotClosed, StopsAt, IsPiece, EndsBefore, RefusesInText, IsQuotedAt, BeginsNothing, IsFault, spelled, ArePieces, kind_of, tokens_from, HasTokens, HasFault, IfFault, GivesFault}
 use Rattle.tt_lex.specs.declared.TokensError.{TokensError}
 use Rattle.tt_lex.specs.declared.TokensError.TheVariants.{Lex, Memory}
 use Rattle.std.specs.Global.{Vec}
@@ -398,12 +398,6 @@ not_both text xs f h k =
     let there : IsFault f (0 + length (spelled k.pieces)) k.rest = subst (λ (n : ℕ). IsFault f n k.rest) (sym (zero-add _)) k.here in
     let stops : Begun_ok (None, 0) ≡ Begun_err f = (one_way 0 h.pieces k.pieces [] k.rest (Begun_ok (None, 0)) (Err f) e h.each k.each (ended _ [] refl) (front_fault _ f k.rest there) refl tt).1 in
     cc
-
--- what a call gives, from what it found
-pub only_tokens : (text : List ℕ) (result : Result (Vec Token) TokensError) (xs : List Token) → IfOk result (λ tokens. HasTokens text tokens.items) → IfFault result (HasFault text) → HasTokens text xs → GivesTokens xs result
-only_tokens text (Ok given) xs found fault h = same_tokens text given.items xs found h
-only_tokens text (Err Memory) xs found fault h = tt
-only_tokens text (Err (Lex f)) xs found fault h = not_both text xs f h fault
 
 pub only_fault : (text : List ℕ) (result : Result (Vec Token) TokensError) (f : LexFault) → IfOk result (λ tokens. HasTokens text tokens.items) → IfFault result (HasFault text) → HasFault text f → GivesFault f result
 only_fault text (Ok given) f found fault h = not_both text given.items f found h

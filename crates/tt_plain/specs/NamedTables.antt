@@ -1,5 +1,5 @@
 -- UnknownTable and TableExists: names of tables that are not live, and live names of tables that are to be made.
-use Rattle.std.specs.Prelude.{ℕ, List, [], ◌∷◌, Option, Some, None, if◌then◌else◌}
+use Rattle.std.specs.Prelude.{◌≡◌, ℕ, List, [], ◌∷◌, Option, Some, None, if◌then◌else◌}
 use Rattle.std.specs.Option.{option_map}
 use Rattle.std.specs.List.{filter_map}
 use Rattle.tt_value.specs.declared.value.Schema.{Schema}
@@ -10,7 +10,7 @@ use Rattle.tt_sql.specs.declared.statement.Statement.{Statement}
 use Rattle.tt_sql.specs.declared.statement.Statement.TheVariants as statement
 use Rattle.tt_plain.specs.declared.plain.PlainTable.{PlainTable}
 use Rattle.tt_plain.specs.Places.{each, where_none, table_begin}
-use Rattle.tt_plain.specs.Tables.{tables_of}
+use Rattle.tt_plain.specs.Tables.{tables_of, IsOverOneTable}
 use Rattle.tt_plain.specs.Store.{live_table}
 
 abbrev pub live_at : List PlainTable → TableName → Option PlainTable
@@ -53,3 +53,10 @@ existing_table tables name = where_some (table_begin name) (live_at tables name)
 -- the places of all names that are given and live
 abbrev pub existing_tables : List PlainTable → Statement → List ℕ
 existing_tables tables s = each (existing_table tables) (made_tables s)
+
+-- ---- statements that read or change one table, and make none
+
+pub record IsOnTable (s : Statement) (name : TableName) : Type 0 where
+  pub tables : tables_of s ≡ name ∷ []
+  pub alone : IsOverOneTable s
+  pub makes : made_tables s ≡ []

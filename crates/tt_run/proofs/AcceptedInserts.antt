@@ -28,9 +28,10 @@ use Rattle.tt_sql.specs.trees.Expressions.{IsWrittenLiteral}
 use Rattle.tt_sql.specs.trees.Lists.{Each, IsListed}
 use Rattle.tt_sql.specs.text.StatementOf.{most_levels}
 use Rattle.tt_plain.specs.InsertRows.{added_rows}
-use Rattle.tt_plain.specs.AcceptedInserts.{accepted_adds}
-use Rattle.tt_plain.specs.ListLaws.{nil_both}
-use Rattle.tt_plain.specs.PrintableRows.{CanBeWritten, tuples_printable}
+use Rattle.tt_plain.proofs.AcceptedInserts.{accepted_adds}
+use Rattle.tt_plain.proofs.Lists.{nil_both}
+use Rattle.tt_plain.specs.PrintableRows.{CanBeWritten}
+use Rattle.tt_plain.proofs.PrintableRows.{tuples_printable}
 use Rattle.tt_plain.specs.Places.{each, if_there}
 use Rattle.tt_plain.specs.TypingRefusal.{IsWellTyped}
 use Rattle.tt_plain.specs.WrongCounts.{width, unless_equal, named_again, miscounted_tuple, miscounted_source}

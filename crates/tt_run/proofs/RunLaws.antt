@@ -12,8 +12,8 @@ use Rattle.tt_plain.specs.declared.plain.PlainSession.{PlainSession}
 use Rattle.tt_plain.specs.Limits.{statement_count, statements_in}
 use Rattle.tt_plain.specs.Store.{empty_store, new_session}
 use Rattle.tt_plain.specs.Replay.{replay_of, replay_from, all_done, is_done}
-use Rattle.tt_plain.specs.SerialOrderLaws.{serial_empty}
-use Rattle.tt_plain.specs.TurnLaws.{IsIdle}
+use Rattle.tt_plain.proofs.SerialOrder.{serial_empty}
+use Rattle.tt_plain.specs.Turns.{IsIdle}
 use Rattle.tt_state.specs.Book.{Book}
 use Rattle.tt_run.specs.Turns.{HasReplies, InTurn, KeepsOthers, AreDone, AreNew}
 

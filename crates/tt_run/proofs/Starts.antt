@@ -29,19 +29,20 @@ use Rattle.tt_history.specs.declared.reply.Reply.TheVariants as reply
 use Rattle.tt_plain.specs.declared.plain.Plain.{Plain}
 use Rattle.tt_plain.specs.declared.plain.PlainTable.{PlainTable}
 use Rattle.tt_plain.specs.Answers.{◌>>=◌, only_if}
-use Rattle.tt_plain.specs.AnswersLaws.{bind_some, map_some, only_if_some}
-use Rattle.tt_plain.specs.Carried.{IsCarried, creates, inserts, queries, carried_built}
+use Rattle.tt_plain.proofs.Answers.{bind_some, map_some, only_if_some}
+use Rattle.tt_plain.specs.Carried.{IsCarried, creates, inserts, queries}
+use Rattle.tt_plain.proofs.Carried.{carried_built}
 use Rattle.tt_plain.specs.NamedTables.{live_at}
 use Rattle.tt_plain.specs.Refusals.{refusal_in, refusal_of, refusal_over, refusal_number}
-use Rattle.tt_plain.specs.RefusalLaws.{insert_on_table, known_on_table}
+use Rattle.tt_plain.proofs.Refusals.{insert_on_table, known_on_table}
 use Rattle.tt_plain.specs.Replay.{step_of}
 use Rattle.tt_plain.specs.StartEntry.{start_step, start_told}
 use Rattle.tt_plain.specs.Statements.{is_started, carried_out, statement_at, carried_at}
-use Rattle.tt_plain.specs.StepLaws.{entry_at}
-use Rattle.tt_plain.specs.SoundLaws.{legal_sound}
+use Rattle.tt_plain.specs.NextEntry.{entry_at}
+use Rattle.tt_plain.proofs.Sound.{legal_sound}
 use Rattle.tt_plain.specs.SoundStore.{HaveNamedColumns}
 use Rattle.tt_plain.specs.Store.{live_table, next_statement, with_ended}
-use Rattle.tt_plain.specs.StoreLaws.{next_is}
+use Rattle.tt_plain.proofs.Turns.{next_is}
 use Rattle.tt_plain.specs.ValueKinds.{IsFoundByName}
 use Rattle.tt_state.specs.declared.ticket.Ticket.{Ticket}
 use Rattle.tt_state.specs.Book.{Book}

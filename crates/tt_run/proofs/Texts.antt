@@ -11,8 +11,8 @@ use Rattle.tt_sql.specs.text.StatementOf.{statement_of}
 use Rattle.tt_plain.specs.declared.plain.Plain.{Plain}
 use Rattle.tt_plain.specs.Statements.{carried_out}
 use Rattle.tt_plain.specs.Store.{next_statement}
-use Rattle.tt_plain.specs.StoreLaws.{said_from}
-use Rattle.tt_plain.specs.TurnLaws.{IsIdle}
+use Rattle.tt_plain.proofs.Turns.{said_from}
+use Rattle.tt_plain.specs.Turns.{IsIdle}
 use Rattle.tt_run.proofs.TurnsLaws.{idle_next}
 
 -- what becomes of an idle session's next statement

@@ -8,7 +8,8 @@ use Rattle.tt_history.specs.declared.reply.Reply.{Reply}
 use Rattle.tt_plain.specs.Store.{empty_store}
 use Rattle.tt_plain.specs.Replay.{replay_from, replay_of}
 use Rattle.tt_plain.specs.Ways.{ends_statement}
-use Rattle.tt_plain.specs.ReplayLaws.{AnswersEach, replay_answers}
+use Rattle.tt_plain.specs.Ways.{AnswersEach}
+use Rattle.tt_plain.proofs.Replay.{replay_answers}
 use Rattle.tt_plain.specs.Transcript.{journal_line, told_reply, lines_of, end_line, text_of, transcript_of, given_replies, AreReplies}
 use Rattle.tt_run.specs.AnsweredLines.{next_reply, later_replies, answered_lines}
 

@@ -13,19 +13,21 @@ use Rattle.tt_sql.specs.declared.table.CreatedTable.{CreatedTable}
 use Rattle.tt_plain.specs.declared.plain.Plain.{Plain}
 use Rattle.tt_plain.specs.declared.plain.PlainOpen.{PlainOpen}
 use Rattle.tt_plain.specs.Answers.{◌>>=◌}
-use Rattle.tt_plain.specs.AnswersLaws.{bind_some}
+use Rattle.tt_plain.proofs.Answers.{bind_some}
 use Rattle.tt_plain.specs.CreateTable.{with_table}
 use Rattle.tt_plain.specs.InsertRows.{with_commit, with_rows}
-use Rattle.tt_plain.specs.Leads.{leads_at}
+use Rattle.tt_plain.proofs.Leads.{leads_at}
 use Rattle.tt_plain.specs.Statements.{carried_at}
 use Rattle.tt_plain.specs.Store.{next_statement, with_ended, with_opened, table_numbered}
-use Rattle.tt_plain.specs.StoreLaws.{next_from}
-use Rattle.tt_plain.specs.StepLaws.{entry_at}
+use Rattle.tt_plain.proofs.Turns.{next_from}
+use Rattle.tt_plain.specs.NextEntry.{entry_at}
 use Rattle.tt_plain.specs.Replay.{step_of, replay_of, after, replay_of-snoc}
-use Rattle.tt_plain.specs.SerialOrderLaws.{serial_goes_on, none_behind_more}
+use Rattle.tt_plain.proofs.SerialOrder.{serial_goes_on, none_behind_more}
 use Rattle.tt_plain.specs.Transcript.{given_replies, AreReplies}
-use Rattle.tt_plain.specs.TurnLaws.{IsIdle, answered_idle}
-use Rattle.tt_plain.specs.Ways.{Way, ends, makes, adds, begins, Goes, step_goes}
+use Rattle.tt_plain.specs.Turns.{IsIdle}
+use Rattle.tt_plain.proofs.Idle.{answered_idle}
+use Rattle.tt_plain.specs.Ways.{Way, ends, makes, adds, begins, Goes}
+use Rattle.tt_plain.proofs.Ways.{step_goes}
 use Rattle.tt_state.specs.Book.{Book, MadeEntry}
 use Rattle.tt_run.specs.Turns.{HasReplies, InTurn, KeepsOthers, Moves, GoesOn, Answers}
 

@@ -7,7 +7,7 @@ use Rattle.tt_history.specs.declared.reply.Reply.{Reply}
 use Rattle.tt_plain.specs.Replay.{replay_of}
 use Rattle.tt_plain.specs.SerialOrder.{entries_of, IsSerialOrder, NoneBehind}
 use Rattle.tt_plain.specs.Transcript.{given_replies}
-use Rattle.tt_plain.specs.TurnLaws.{IsIdle}
+use Rattle.tt_plain.specs.Turns.{IsIdle}
 use Rattle.tt_state.specs.Book.{Book}
 
 -- the catalog's history is legal and leads to its store

@@ -2,7 +2,7 @@
 
 ghost use Rattle.std.specs.Prelude.{◌≡◌, ◌≤◌, ◌<◌, ◌+◌, ◌^◌, length, IfOk, OnOk, [], Some, slice_get};
 ghost use Rattle.tt_plain.specs.Store.{empty_store};
-ghost use Rattle.tt_plain.specs.TurnLaws.{IsIdle};
+ghost use Rattle.tt_plain.specs.Turns.{IsIdle};
 ghost use Rattle.tt_run.specs.Turns.{IsReplayed, HasReplies, Answers, InTurn, KeepsOthers, AreDone};
 ghost use Rattle.tt_run.specs.Outcomes.{IsFinished, IsTranscript, InOrder};
 

@@ -44,12 +44,6 @@ run_goes_on test bytes i inside total within passes so_far =
     let f : i + cond true (1 + prefix_len test (kinds_in (inside_after inside (get_or bytes i 0) (next_of bytes i)) (drop (i + 1) bytes))) 0 ≡ total = rw (kinds_next bytes i inside within, passes) at so_far in
     omega arith
 
-pub run_stops : (test : Kind → Bool) (bytes : List ℕ) (i : ℕ) (inside : Inside) (total : ℕ) → i < length bytes → test (kind_at inside (get_or bytes i 0) (next_of bytes i)) ≡ false
-    → Counts test bytes i inside total → i ≡ total
-run_stops test bytes i inside total within fails so_far =
-    let f : i + cond false (1 + prefix_len test (kinds_in (inside_after inside (get_or bytes i 0) (next_of bytes i)) (drop (i + 1) bytes))) 0 ≡ total = rw (kinds_next bytes i inside within, fails) at so_far in
-    omega arith
-
 -- the same, as the loops' calls answer
 pub goes_on : (test : Kind → Bool) (bytes : List ℕ) (i : ℕ) (inside : Inside) (next : ℕ) (kind : Kind) (after : Inside) (total : ℕ) → i < length bytes → next ≡ get_or bytes (i + 1) 0 → kind ≡ kind_at inside (get_or bytes i 0) next → test kind ≡ true
     → after ≡ inside_after inside (get_or bytes i 0) next → Counts test bytes i inside total → Counts test bytes (i + 1) after total
@@ -57,14 +51,6 @@ goes_on test bytes i inside next kind after total within n k passes a so_far =
     let kind_is : kind ≡ kind_at inside (get_or bytes i 0) (next_of bytes i) = k ∙ ap (kind_at inside (get_or bytes i 0)) n in
     let after_is : after ≡ inside_after inside (get_or bytes i 0) (next_of bytes i) = a ∙ ap (inside_after inside (get_or bytes i 0)) n in
     rw after_is (run_goes_on test bytes i inside total within (subst (λ (x : Kind). test x ≡ true) kind_is passes) so_far)
-
-drop_past : (n : ℕ) (bytes : List ℕ) → length bytes ≤ n → drop n bytes ≡ []
-drop_past n bytes h = grind (arith, common_steps)
-
-pub run_ends : (test : Kind → Bool) (bytes : List ℕ) (i : ℕ) (inside : Inside) (total : ℕ) → length bytes ≤ i → i ≤ length bytes
-    → Counts test bytes i inside total → length bytes ≡ total
-run_ends test bytes i inside total past within so_far =
-    let f : i + 0 ≡ total = rw (drop_past i bytes past) at so_far in omega arith
 
 pub length-kinds : (inside : Inside) (bytes : List ℕ) → length (kinds_in inside bytes) ≡ length bytes
 length-kinds inside [] = refl

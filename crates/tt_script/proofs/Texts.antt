@@ -1,5 +1,5 @@
 -- Lines of a text, one after the other, as the loops go over them.
-use Rattle.std.proofs.Common.{◌≡◌, ℕ, suc, ◌+◌, ◌<◌, ◌≤◌, Bool, true, false, cond, ◌&&◌, ◌||◌, not, eqb, leb, ltb, List, [], ◌∷◌, ◌++◌, length, take, drop, min, codes, Option, Some, None, refl, sym, ap, subst, ◌∙◌, arith, inl, inr}
+use Rattle.std.proofs.Common.{◌≡◌, ℕ, suc, ◌+◌, ◌<◌, Bool, true, false, cond, ◌&&◌, ◌||◌, not, eqb, ltb, List, [], ◌∷◌, ◌++◌, length, take, drop, min, codes, Option, Some, None, refl, sym, ap, subst, ◌∙◌, arith, inl, inr}
 use Rattle.std.specs.List.{list_all, onto_first, position, position_or_len}
 use Rattle.std.specs.Str.{IsUtf8, is_utf8}
 use Rattle.std.proofs.lemmas.Bool.{cases_Bool, cases_lt, lt-ltb}
@@ -9,8 +9,7 @@ use Rattle.std.proofs.lemmas.Str.{is_utf8-from_IsUtf8, IsUtf8-append, IsUtf8-nil
 use Rattle.std.specs.Prelude.{nat_eq, is_ok, MatchResult, Result, Ok, Err}
 use Rattle.std.specs.Cmp.Lexicographic.{pointwise}
 use Rattle.tt_script.specs.Bytes.{is_white, is_line_feed}
-use Rattle.tt_script.specs.Lines.{lines_of, is_faulty, first_faulty, begins_session, is_session_name, session_on, only_if, line_place, said, is_directive, may_stand}
-use Rattle.tt_script.specs.Script.{session_in}
+use Rattle.tt_script.specs.Lines.{lines_of, is_faulty, first_faulty, begins_session, is_session_name, session_on, only_if, is_directive, may_stand}
 
 -- ---- the first line
 
@@ -128,15 +127,6 @@ utf8_text bytes e = subst IsUtf8 (joined_lines bytes) (utf8_lines false 0 (lines
 
 -- ---- the session
 
-pub session_here : (rest line behind name : List ℕ) (at : ℕ) (total : Option (List ℕ × ℕ)) → lines_of rest ≡ line ∷ lines_of behind → session_on (said line) ≡ Some name → session_in at (lines_of rest) ≡ total → Some (name, at + length line) ≡ total
-session_here rest line behind name at total e named so_far = rw (e, named) at so_far
-
-pub session_later : (rest line behind : List ℕ) (at : ℕ) (total : Option (List ℕ × ℕ)) → lines_of rest ≡ line ∷ lines_of behind → session_on (said line) ≡ None → session_in at (lines_of rest) ≡ total → session_in (at + length line) (lines_of behind) ≡ total
-session_later rest line behind at total e none so_far = rw (e, none) at so_far
-
-pub session_none : (rest : List ℕ) (at : ℕ) (total : Option (List ℕ × ℕ)) → rest ≡ [] → session_in at (lines_of rest) ≡ total → None ≡ total
-session_none rest at total e so_far = rw e at so_far
-
 pub session_named : (text name : List ℕ) → session_on text ≡ Some name → is_session_name name ≡ true
 unfolding session_on
 session_named text name e = by (pointwise nat_eq (take 9 text) (codes "%session ")) (is_session_name (drop 9 text)) (drop 9 text) refl e
@@ -145,22 +135,3 @@ session_named text name e = by (pointwise nat_eq (take 9 text) (codes "%session 
     by true true behind r e = let f : behind ≡ name = cc in subst (λ (n : List ℕ). is_session_name n ≡ true) f (sym r)
     by true false behind r e = absurd cc
     by false right behind r e = absurd cc
-
--- ---- the line of a place
-
-pub place_here : (rest line behind : List ℕ) (at place total : ℕ) → lines_of rest ≡ line ∷ lines_of behind → place < at + length line → line_place at (lines_of rest) place ≡ total → at ≡ total
-place_here rest line behind at place total e before so_far =
-    let f : leb (at + length line) place ≡ false = below before in rw (e, f) at so_far
-  where
-    below : {m n : ℕ} → m < n → leb n m ≡ false
-    below h = grind (arith, nat_tests)
-
-pub place_later : (rest line behind : List ℕ) (at place total : ℕ) → lines_of rest ≡ line ∷ lines_of behind → at + length line ≤ place → line_place at (lines_of rest) place ≡ total → line_place (at + length line) (lines_of behind) place ≡ total
-place_later rest line behind at place total e past so_far =
-    let f : leb (at + length line) place ≡ true = above past in rw (e, f) at so_far
-  where
-    above : {m n : ℕ} → n ≤ m → leb n m ≡ true
-    above h = grind (arith, nat_tests)
-
-pub place_none : (rest : List ℕ) (at place total : ℕ) → rest ≡ [] → line_place at (lines_of rest) place ≡ total → at ≡ total
-place_none rest at place total e so_far = rw e at so_far

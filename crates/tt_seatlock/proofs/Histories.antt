@@ -52,17 +52,3 @@ module _ {E : Type 0} (xs ys : List E) where
 
   pub longer_in : (log : List E) → IsPrefix xs log → IsPrefix ys log → IsPrefix (longer xs ys) log
   longer_in = longer_by (nat_lt (length xs) (length ys))
-
-  first_by : (b : Bool) → IsPrefix (cond b xs ys) (cond b ys xs) → IsPrefix xs (cond b ys xs)
-  first_by true p = p
-  first_by false p = prefix_self xs
-
-  pub first_begins : IsPrefix (shorter xs ys) (longer xs ys) → IsPrefix xs (longer xs ys)
-  first_begins = first_by (nat_lt (length xs) (length ys))
-
-  second_by : (b : Bool) → IsPrefix (cond b xs ys) (cond b ys xs) → IsPrefix ys (cond b ys xs)
-  second_by true p = prefix_self ys
-  second_by false p = p
-
-  pub second_begins : IsPrefix (shorter xs ys) (longer xs ys) → IsPrefix ys (longer xs ys)
-  second_begins = second_by (nat_lt (length xs) (length ys))

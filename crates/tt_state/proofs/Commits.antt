@@ -11,7 +11,7 @@ use Rattle.tt_plain.specs.declared.plain.Plain.{Plain}
 use Rattle.tt_plain.specs.InsertRows.{added_rows, with_commit}
 use Rattle.tt_plain.specs.Replay.{step_of}
 use Rattle.tt_plain.specs.SoundStore.{IsTableNumber}
-use Rattle.tt_plain.specs.StepLaws.{entry_at}
+use Rattle.tt_plain.specs.NextEntry.{entry_at}
 use Rattle.tt_plain.specs.Store.{with_ended}
 use Rattle.tt_state.specs.declared.ticket.Built.{Built}
 use Rattle.tt_state.specs.declared.ticket.Seen.{Seen}

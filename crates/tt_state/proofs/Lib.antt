@@ -1,3 +1,6 @@
+pub mod Book
 pub mod Commits
 pub mod Lookups
+pub mod Outcomes
+pub mod Ready
 pub mod Turns

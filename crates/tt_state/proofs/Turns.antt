@@ -11,14 +11,15 @@ use Rattle.tt_history.specs.declared.history.Told.TheVariants as told
 use Rattle.tt_plain.specs.declared.plain.Plain.{Plain}
 use Rattle.tt_plain.specs.declared.plain.PlainOpen.{PlainOpen}
 use Rattle.tt_plain.specs.declared.plain.PlainTable.{PlainTable}
-use Rattle.tt_plain.specs.Carried.{IsCarried, creates, inserts, queries, carried_built}
-use Rattle.tt_plain.specs.AcceptedInserts.{insert_adds}
-use Rattle.tt_plain.specs.NamedColumns.{named_at}
+use Rattle.tt_plain.specs.Carried.{IsCarried, creates, inserts, queries}
+use Rattle.tt_plain.proofs.Carried.{carried_built}
+use Rattle.tt_plain.proofs.AcceptedInserts.{insert_adds}
+use Rattle.tt_plain.proofs.NamedColumns.{named_at}
 use Rattle.tt_plain.specs.Refusals.{refusal_over}
 use Rattle.tt_plain.specs.SoundStore.{AreNumbered, HaveNamedColumns, IsTableNumber}
-use Rattle.tt_plain.specs.SoundLaws.{open_known, live_number}
+use Rattle.tt_plain.proofs.Sound.{open_known, live_number}
 use Rattle.tt_plain.specs.Store.{next_statement, open_statement, with_opened}
-use Rattle.tt_plain.specs.StoreLaws.{next_is, open_is, open_from}
+use Rattle.tt_plain.proofs.Turns.{next_is, open_is, open_from}
 use Rattle.tt_state.specs.declared.ticket.Seen.{Seen}
 use Rattle.tt_state.specs.declared.ticket.Started.{Started}
 use Rattle.tt_state.specs.declared.ticket.Started.TheVariants as started

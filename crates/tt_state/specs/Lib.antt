@@ -1,8 +1,5 @@
-pub mod PlainOf
 pub mod Book
+pub mod Outcomes
+pub mod PlainOf
 pub mod Ready
 pub mod Tickets
-pub mod Outcomes
-pub mod ReadyLaws
-pub mod OutcomeLaws
-pub mod BookLaws

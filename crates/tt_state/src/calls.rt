@@ -4,7 +4,7 @@ ghost use Rattle.std.specs.Prelude.{◌≡◌, true, Some, Ok, Err, [], IfOk, If
 ghost use Rattle.tt_plain.specs.Statements.{is_started, is_definition};
 ghost use Rattle.tt_plain.specs.Store.{next_statement};
 ghost use Rattle.tt_plain.specs.SelectRows.{rows_read};
-ghost use Rattle.tt_plain.specs.StepLaws.{entry_at};
+ghost use Rattle.tt_plain.specs.NextEntry.{entry_at};
 ghost use Rattle.tt_history.specs.declared.history.Actor.TheVariants as actor;
 ghost use Rattle.tt_history.specs.declared.history.Told.{Told};
 ghost use Rattle.tt_history.specs.declared.history.Told.TheVariants as told;

@@ -8,7 +8,7 @@ ghost use Rattle.tt_sql.specs.declared.statement.Statement.{Statement as Stateme
 ghost use Rattle.tt_sql.specs.declared.statement.Statement.TheVariants as tree;
 ghost use Rattle.tt_plain.specs.NamedTables.{live_at};
 ghost use Rattle.tt_plain.specs.Refusals.{refusal_over, refusal_number as number_of};
-ghost use Rattle.tt_plain.specs.RefusalLaws.{IsOnTable};
+ghost use Rattle.tt_plain.specs.NamedTables.{IsOnTable};
 
 use std::slice;
 use tt_history::Refusal;

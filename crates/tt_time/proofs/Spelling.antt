@@ -1,7 +1,7 @@
 -- A date or a timestamp is written in one way: what is written tells its parts.
 use Rattle.std.proofs.Common.{◌≡◌, ℕ, ◌+◌, ◌/◌, ◌%◌, ◌≤◌, List, ◌∷◌, ◌++◌, ap, ◌∙◌, arith, ℤ}
-use Rattle.tt_value.specs.calendar.Calendar.{CivilDate, IsCivil, IsDay, date_of, two_digits, four_digits, date_text, day_text, days_in_month, Clock, IsClock, clock_text}
-use Rattle.tt_value.proofs.calendar.DayNumbers.{numbered, one_day, same_parts}
+use Rattle.tt_value.specs.calendar.Calendar.{CivilDate, IsCivil, IsDay, date_of, two_digits, four_digits, date_text, day_text, Clock, IsClock, clock_text}
+use Rattle.tt_value.proofs.calendar.DayNumbers.{numbered, one_day, same_parts, short_months}
 
 pub two_one : (a b : ℕ) (r s : List ℕ) → a ≤ 99 → b ≤ 99 → two_digits a ++ r ≡ two_digits b ++ s → (a ≡ b) × (r ≡ s)
 two_one a b r s la lb e =
@@ -25,11 +25,8 @@ pub record IsWritable (d : CivilDate) : Type 0 where
   pub month : d.month ≤ 99
   pub day : d.day ≤ 99
 
-short_days : (y m : ℕ) → days_in_month y m ≤ 31
-short_days y m = grind arith
-
 pub civil_writable : (d : CivilDate) → IsCivil d → IsWritable d
-civil_writable d civil = record { year = civil.year.1; month = omega (arith, civil.month.1); day = omega (arith, civil.day.1, short_days d.year d.month) }
+civil_writable d civil = record { year = civil.year.1; month = omega (arith, civil.month.1); day = omega (arith, civil.day.1, (short_months d.year d.month).1) }
 
 pub day_writable : (day : ℤ) → IsDay day → IsWritable (date_of day)
 day_writable day within = civil_writable (date_of day) (numbered day within).0

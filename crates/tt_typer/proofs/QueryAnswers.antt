@@ -221,10 +221,6 @@ module _ (scope : Scope) where
 
   -- ---- rows of the answer
 
-  star_is_plain : (group : List ColumnName) (place : ℕ) → (if is_grouped (selection.All place) group then ungrouped_selection scope group (selection.All place) else []) ≡ [] → group ≡ []
-  star_is_plain [] place none = refl
-  star_is_plain (c ∷ group) place none = cc
-
   star_rows : (place : ℕ) (rows answer : List Row) → AllByRecursion Kinds rows → all_some (map (selected scope (selection.All place)) (map (λ row. row ∷ []) rows)) ≡ Some answer → AllByRecursion Kinds answer
   star_rows place rows answer all is =
       all_across Kinds (λ row r. selected scope (selection.All place) (row ∷ []) ≡ Some r) Kinds

@@ -10,7 +10,7 @@ use Rattle.jiff_core.specs.Calendar.{days_from_civil}
 use Rattle.jiff_core.proofs.SignedLemmas.{signed_arith}
 use Rattle.jiff_core.proofs.DateLemmas.{days_from_civil-day, days_from_civil-next_month, days_from_civil-next_year}
 use Rattle.tt_value.specs.calendar.Calendar.{CivilDate, IsCivil, is_leap_year, days_in_month, date_of, IsDay, two_digits, four_digits, date_text, day_text}
-use Rattle.tt_value.proofs.calendar.DayNumbers.{number, numbered, day_is, made, same_months, number-first}
+use Rattle.tt_value.proofs.calendar.DayNumbers.{number, numbered, day_is, made, same_months, number-first, short_months}
 use Rattle.tt_value.specs.calendar.Reading.{days_in_year, days_before_year, days_before_month, day_number, is_civil, digits_value, has_date_form, written_date, day_of}
 
 -- ---- the number of a date
@@ -116,9 +116,6 @@ civil_test date civil = grind (arith, nat_tests, civil.year, civil.month, civil.
 civil_from : (date : CivilDate) → is_civil date ≡ true → IsCivil date
 civil_from date test = record { year = grind (arith, nat_tests, test); month = grind (arith, nat_tests, test); day = grind (arith, nat_tests, test) }
 
-short_day : (y m : ℕ) → days_in_month y m ≤ 31
-short_day y m = grind arith
-
 pub if_both : {A : Type 0} (a b : Bool) (x : Option A) → a ≡ true → b ≡ true → (if a && b then x else None) ≡ x
 if_both a b x first second = rw (first, second) refl
 
@@ -140,7 +137,7 @@ day_of-written day within =
     let d = date_of day in
     let ly : d.year ≤ 9999 = found.0.year.1 in
     let lm : d.month ≤ 99 = omega (arith, found.0.month.1) in
-    let ld : d.day ≤ 99 = omega (arith, found.0.day.1, short_day d.year d.month) in
+    let ld : d.day ≤ 99 = omega (arith, found.0.day.1, (short_months d.year d.month).1) in
     read_as (date_text d) d day (form_written d.year d.month d.day ly lm ld) (date_written d.year d.month d.day ly lm ld) found.0 found.1
 
 -- ---- what is read as a day is its text

@@ -34,7 +34,7 @@ number-first = omega (arith, signed_arith, days_from_civil-day_count (pos 1) 1 1
 abbrev Follows : CivilDate → CivilDate → Type 0
 Follows d e = IsLater e × (number e ≡ number d +ℤ pos 1)
 
-short_months : (y m : ℕ) → (1 ≤ days_in_month y m) × (days_in_month y m ≤ 31)
+pub short_months : (y m : ℕ) → (1 ≤ days_in_month y m) × (days_in_month y m ≤ 31)
 short_months y m = grind arith
 
 next_day : (d : CivilDate) → IsLater d → d.day < days_in_month d.year d.month → Follows d (record { year = d.year; month = d.month; day = d.day + 1 })

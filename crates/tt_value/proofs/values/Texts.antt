@@ -1,8 +1,8 @@
 -- Printable ASCII is UTF-8 and has no control character.
-use Rattle.std.proofs.Common.{◌≡◌, ℕ, ◌<◌, ◌≤◌, Bool, true, false, cond, List, length, get_or, nat_lt, nat_le, ◌&&◌, None, Some, All, ap, ◌∙◌, arith}
-use Rattle.std.specs.List.{position, position_or_len, list_all}
+use Rattle.std.proofs.Common.{◌≡◌, ℕ, ◌<◌, ◌≤◌, false, cond, List, length, get_or, nat_lt, None, Some, All, ap, ◌∙◌, arith}
+use Rattle.std.specs.List.{position, position_or_len}
 use Rattle.std.specs.Str.{IsUtf8}
-use Rattle.std.proofs.lemmas.List.Sums.{position_or_len_is, AllPass-from_list_all}
+use Rattle.std.proofs.lemmas.List.Sums.{position_or_len_is}
 use Rattle.std.proofs.lemmas.List.Elements.{All-weaker}
 use Rattle.std.proofs.lemmas.Str.{IsUtf8-from_ascii}
 use Rattle.std.proofs.lemmas.Str.Ascii.{IsAscii-from_all}
@@ -27,14 +27,3 @@ plain_from_printable bytes h =
 
 pub IsText-from_printable : (bytes : List ℕ) → All IsPrintableAscii bytes → length bytes ≤ 65535 → IsText bytes
 IsText-from_printable bytes h short = record { short = short; plain = plain_from_printable bytes h }
-
--- the same as a test that computes, for a literal
-abbrev pub is_printable_ascii : ℕ → Bool
-is_printable_ascii byte = nat_le 32 byte && nat_lt byte 127
-
-printable_from_true : (byte : ℕ) → is_printable_ascii byte ≡ true → IsPrintableAscii byte
-printable_from_true byte e = grind (arith, nat_tests)
-
-pub printable_from_test : (bytes : List ℕ) → list_all is_printable_ascii bytes ≡ true → All IsPrintableAscii bytes
-printable_from_test bytes e =
-    All-weaker (λ b. is_printable_ascii b ≡ true) IsPrintableAscii printable_from_true bytes (AllPass-from_list_all is_printable_ascii bytes e)

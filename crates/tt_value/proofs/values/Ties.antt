@@ -1,16 +1,14 @@
 -- Values and rows that tie are the same.
 use Rattle.std.proofs.Common.{◌≡◌, [], ◌∷◌, true, Decides, refl, ap, sym, ◌∙◌, rules, Ordering}
 use Rattle.std.specs.declared.cmp.Ordering.TheVariants.{Less, Equal, Greater}
-use Rattle.std.specs.Cmp.{IsTotalOrder, tied_itself}
-use Rattle.std.specs.Cmp.Rules.{comparing}
+use Rattle.std.specs.Cmp.{tied_itself}
 use Rattle.std.specs.Cmp.Lexicographic.{slice_cmp}
 use Rattle.std.specs.Ordering.{ordering_then, is_eq}
 use Rattle.std.proofs.lemmas.Map.Lookups.{exact_signed, exact_bytes}
 use Rattle.tt_value.specs.values.Order.{value_cmp, row_cmp, TiesAreSame}
-use Rattle.tt_value.specs.declared.value.Value.{Value}
 use Rattle.tt_value.specs.declared.value.Value.TheVariants.{Null, Int, Date, Text}
 use Rattle.tt_value.specs.declared.value.Row.{Row}
-use Rattle.tt_value.specs.values.TotalOrder.{value_total, row_total}
+use Rattle.tt_value.specs.values.TotalOrder.{row_total}
 
 -- Values that tie are one value.
 pub value_same : TiesAreSame value_cmp
@@ -57,10 +55,6 @@ equal_from_true : (o : Ordering) → is_eq o ≡ true → o ≡ Equal
 equal_from_true Less e = cc
 equal_from_true Equal e = refl
 equal_from_true Greater e = cc
-
-pub value_eq-Decides : (a b : Value) → Decides (is_eq (value_cmp a b)) (a ≡ b)
-value_eq-Decides a b =
-    (λ e. value_same a b (equal_from_true (value_cmp a b) e), λ e. ap (λ v. is_eq (value_cmp a v)) (sym e) ∙ ap is_eq (tied_itself value_total a))
 
 pub row_eq-Decides : (a b : Row) → Decides (is_eq (row_cmp a b)) (a ≡ b)
 row_eq-Decides a b =

@@ -1,5 +1,5 @@
-use Rattle.tt_plain.specs.AcceptedInserts.{accepted_adds}
-use Rattle.tt_plain.specs.PrintableRows.{tuples_printable}
+use Rattle.tt_plain.proofs.AcceptedInserts.{accepted_adds}
+use Rattle.tt_plain.proofs.PrintableRows.{tuples_printable}
 use Rattle.tt_plain.proofs.laws.accepted_inserts_add_rows.Goals as goal
 
 pub returns-clause-adds : goal.returns-clause-adds

@@ -1,4 +1,4 @@
-use Rattle.tt_plain.specs.Ways.{step_goes}
+use Rattle.tt_plain.proofs.Ways.{step_goes}
 use Rattle.tt_plain.proofs.laws.entries_go_known_ways.Goals as goal
 
 pub returns : goal.returns

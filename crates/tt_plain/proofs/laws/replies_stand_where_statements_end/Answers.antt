@@ -1,4 +1,4 @@
-use Rattle.tt_plain.specs.ReplayLaws.{replay_answers}
+use Rattle.tt_plain.proofs.Replay.{replay_answers}
 use Rattle.tt_plain.proofs.laws.replies_stand_where_statements_end.Goals as goal
 
 pub returns : goal.returns

@@ -1,4 +1,4 @@
-use Rattle.tt_plain.specs.SerialOrderLaws.{serial_empty, serial_goes_on, none_behind_more}
+use Rattle.tt_plain.proofs.SerialOrder.{serial_empty, serial_goes_on, none_behind_more}
 use Rattle.tt_plain.proofs.laws.serial_order_goes_on.Goals as goal
 
 pub returns-clause-begins : goal.returns-clause-begins

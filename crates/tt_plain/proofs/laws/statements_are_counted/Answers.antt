@@ -1,4 +1,4 @@
-use Rattle.tt_plain.specs.LimitsLaws.{statements_counted}
+use Rattle.tt_plain.proofs.Limits.{statements_counted}
 use Rattle.tt_plain.proofs.laws.statements_are_counted.Goals as goal
 
 pub returns : goal.returns

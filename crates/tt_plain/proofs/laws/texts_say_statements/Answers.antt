@@ -1,4 +1,4 @@
-use Rattle.tt_plain.specs.StoreLaws.{said_from}
+use Rattle.tt_plain.proofs.Turns.{said_from}
 use Rattle.tt_plain.proofs.laws.texts_say_statements.Goals as goal
 
 pub returns : goal.returns

@@ -1,4 +1,4 @@
-use Rattle.tt_plain.specs.WholeTables.{whole_answer}
+use Rattle.tt_plain.proofs.WholeTables.{whole_answer}
 use Rattle.tt_plain.proofs.laws.whole_tables_are_answered.Goals as goal
 
 pub returns : goal.returns

@@ -1,5 +1,5 @@
 use Rattle.std.proofs.Common.{◌≡◌}
-use Rattle.tt_plain.specs.TurnLaws.{IsIdle}
+use Rattle.tt_plain.specs.Turns.{IsIdle}
 use Rattle.tt_run.specs.Turns.{HasReplies, InTurn, KeepsOthers}
 use Rattle.tt_run.proofs.run.run_session.Given as goal
 

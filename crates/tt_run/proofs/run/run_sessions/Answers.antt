@@ -4,7 +4,7 @@ use Rattle.std.proofs.lemmas.Option.{slice_get_read}
 use Rattle.tt_script.specs.declared.script.Script.{Script}
 use Rattle.tt_script.specs.declared.script.SessionText.{SessionText}
 use Rattle.tt_history.specs.declared.reply.Reply.{Reply}
-use Rattle.tt_plain.specs.LimitsLaws.{few_statements}
+use Rattle.tt_plain.proofs.Limits.{few_statements}
 use Rattle.tt_run.specs.Turns.{HasReplies}
 use Rattle.tt_run.proofs.RunLaws.{begun, all_new, none_done, few_statements_in, one_more_done, next_new}
 use Rattle.tt_run.proofs.run.run_sessions.Goals as goal

@@ -3,7 +3,8 @@ use Rattle.tt_history.specs.declared.history.Actor.TheVariants as actor
 use Rattle.tt_history.specs.declared.history.EntryKind.TheVariants as kind
 use Rattle.tt_history.specs.declared.history.Told.TheVariants as told
 use Rattle.tt_history.specs.declared.reply.Reply.TheVariants as reply
-use Rattle.tt_plain.specs.StepLaws.{entry_at, abandoned}
+use Rattle.tt_plain.specs.NextEntry.{entry_at}
+use Rattle.tt_plain.proofs.Steps.{abandoned}
 use Rattle.tt_state.specs.Book.{Book, MadeEntry}
 use Rattle.tt_state.specs.Tickets.{IsTicketOf, opened_by}
 use Rattle.tt_state.specs.PlainOf.{plain_of}

@@ -2,7 +2,7 @@ use Rattle.std.proofs.Common.{◌≡◌, ◌∷◌, ◌++◌, [], Some, Ok, sym,
 use Rattle.tt_history.specs.declared.history.Told.{Told}
 use Rattle.tt_history.specs.declared.history.EntryKind.TheVariants as kind
 use Rattle.tt_plain.specs.Store.{next_statement}
-use Rattle.tt_plain.specs.StepLaws.{entry_at}
+use Rattle.tt_plain.specs.NextEntry.{entry_at}
 use Rattle.tt_state.specs.Book.{Book, MadeEntry}
 use Rattle.tt_state.specs.PlainOf.{plain_of}
 use Rattle.tt_state.proofs.Outcomes.{defined_step}

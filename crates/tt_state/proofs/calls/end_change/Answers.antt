@@ -3,7 +3,7 @@ use Rattle.tt_history.specs.declared.history.EntryKind.{EntryKind}
 use Rattle.tt_history.specs.declared.history.EntryKind.TheVariants as kind
 use Rattle.tt_history.specs.declared.reply.Reply.TheVariants as reply
 use Rattle.tt_plain.specs.Store.{with_ended}
-use Rattle.tt_plain.specs.StepLaws.{entry_at}
+use Rattle.tt_plain.specs.NextEntry.{entry_at}
 use Rattle.tt_state.specs.Book.{Book, MadeEntry}
 use Rattle.tt_state.specs.Tickets.{IsBuiltFor}
 use Rattle.tt_state.specs.PlainOf.{plain_of}

@@ -4,7 +4,7 @@ use Rattle.tt_history.specs.declared.history.EntryKind.TheVariants as kind
 use Rattle.tt_history.specs.declared.reply.Reply.TheVariants as reply
 use Rattle.tt_sql.specs.declared.statement.Statement.TheVariants as statement
 use Rattle.tt_plain.specs.SelectRows.{rows_read}
-use Rattle.tt_plain.specs.StepLaws.{entry_at}
+use Rattle.tt_plain.specs.NextEntry.{entry_at}
 use Rattle.tt_state.specs.Book.{Book, MadeEntry}
 use Rattle.tt_state.specs.Tickets.{IsTicketOf, opened_by}
 use Rattle.tt_state.specs.PlainOf.{plain_of}

@@ -5,7 +5,8 @@ use Rattle.tt_history.specs.declared.history.EntryKind.TheVariants as kind
 use Rattle.tt_history.specs.declared.reply.Refusal.TheVariants as refusal
 use Rattle.tt_history.specs.declared.reply.Reply.TheVariants as reply
 use Rattle.tt_plain.specs.Store.{next_statement}
-use Rattle.tt_plain.specs.StepLaws.{entry_at, start_refused}
+use Rattle.tt_plain.specs.NextEntry.{entry_at}
+use Rattle.tt_plain.proofs.Steps.{start_refused}
 use Rattle.tt_state.specs.Book.{Book, MadeEntry}
 use Rattle.tt_state.specs.PlainOf.{plain_of}
 use Rattle.tt_state.proofs.Book.{has_room, goes_on, made}

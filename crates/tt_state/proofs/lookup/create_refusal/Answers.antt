@@ -2,7 +2,7 @@ use Rattle.std.proofs.Common.{◌≡◌, true, Some, [], sym, ap, ◌∙◌, sub
 use Rattle.tt_history.specs.declared.reply.Refusal.TheVariants.{TableExists}
 use Rattle.tt_sql.specs.trees.Built.{built}
 use Rattle.tt_plain.specs.Refusals.{refusal_over}
-use Rattle.tt_plain.specs.RefusalLaws.{created_keeps, created_exists, created_new}
+use Rattle.tt_plain.proofs.Refusals.{created_keeps, created_exists, created_new}
 use Rattle.tt_plain.specs.TypingRefusal.{typing_refusal}
 use Rattle.tt_state.proofs.Lookups.{copied_some, copied_none, checked}
 use Rattle.tt_state.proofs.lookup.create_refusal.Goals as goal

@@ -2,7 +2,7 @@ use Rattle.std.proofs.Common.{Some, sym, ap, ◌∙◌}
 use Rattle.std.specs.Option.{option_copied}
 use Rattle.tt_history.specs.declared.reply.Refusal.TheVariants.{UnknownTable}
 use Rattle.tt_plain.specs.TypingRefusal.{typing_refusal}
-use Rattle.tt_plain.specs.RefusalLaws.{known_on_table, unknown_on_table}
+use Rattle.tt_plain.proofs.Refusals.{known_on_table, unknown_on_table}
 use Rattle.tt_state.proofs.Lookups.{checked}
 use Rattle.tt_state.proofs.lookup.refusal_on_table.Goals as goal
 

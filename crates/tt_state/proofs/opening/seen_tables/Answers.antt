@@ -4,7 +4,7 @@ use Rattle.tt_sql.specs.trees.Built.{built}
 use Rattle.tt_sql.specs.declared.change.Dml.TheVariants as dml
 use Rattle.tt_sql.specs.declared.statement.Statement.TheVariants as statement
 use Rattle.tt_plain.specs.Refusals.{refusal_over}
-use Rattle.tt_plain.specs.RefusalLaws.{insert_on_table, query_on_table, on_table_lives}
+use Rattle.tt_plain.proofs.Refusals.{insert_on_table, query_on_table, on_table_lives}
 use Rattle.tt_state.proofs.opening.seen_tables.Goals as goal
 
 -- a statement that is not refused names a live table

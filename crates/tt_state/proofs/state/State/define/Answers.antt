@@ -1,6 +1,6 @@
 use Rattle.std.proofs.Common.{◌+◌, ◌∙◌, ap}
 use Rattle.tt_plain.specs.Store.{with_ended}
-use Rattle.tt_plain.specs.Carried.{built_carried}
+use Rattle.tt_plain.proofs.Carried.{built_carried}
 use Rattle.tt_state.specs.PlainOf.{plain_of}
 use Rattle.tt_state.proofs.Ready.{carried_ready}
 use Rattle.tt_state.proofs.state.State.define.Goals as goal

@@ -1,7 +1,7 @@
 use Rattle.std.proofs.Common.{◌+◌, refl, sym, ap, subst, ◌∙◌}
 use Rattle.tt_plain.specs.Store.{with_opened}
 use Rattle.tt_state.specs.PlainOf.{plain_of}
-use Rattle.tt_plain.specs.Carried.{built_carried}
+use Rattle.tt_plain.proofs.Carried.{built_carried}
 use Rattle.tt_plain.specs.Refusals.{refusal_over}
 use Rattle.tt_state.specs.Tickets.{SeesTables}
 use Rattle.tt_state.proofs.Outcomes.{sees_opened}

@@ -1,5 +1,5 @@
 -- A run answers just where a statement ends: an entry by which a statement ends is told a reply, and no other entry is.
-use Rattle.std.specs.Prelude.{◌≡◌, Bool, List, [], ◌∷◌, ◌++◌, Option, Some, None, is_some, refl, ⊤}
+use Rattle.std.specs.Prelude.{◌≡◌, Bool, List, [], ◌∷◌, ◌++◌, Option, Some, None, is_some, refl}
 use Rattle.std.proofs.Common.{sym, ◌∙◌, ap, subst, append_assoc, ℕ, ◌+◌}
 use Rattle.std.proofs.lemmas.List.{append-nil}
 use Rattle.tt_script.specs.declared.script.Script.{Script}
@@ -7,17 +7,13 @@ use Rattle.tt_history.specs.declared.history.Entry.{Entry}
 use Rattle.tt_history.specs.declared.reply.Reply.{Reply}
 use Rattle.tt_plain.specs.declared.plain.Plain.{Plain}
 use Rattle.tt_plain.specs.Answers.{◌>>=◌}
-use Rattle.tt_plain.specs.Leads.{Leads, leads_on}
+use Rattle.tt_plain.specs.Leads.{Leads}
+use Rattle.tt_plain.proofs.Leads.{leads_on}
 use Rattle.tt_plain.specs.Store.{empty_store}
-use Rattle.tt_plain.specs.Ways.{ends_statement, Way, ends, makes, adds, begins, Goes, step_goes}
+use Rattle.tt_plain.specs.Ways.{ends_statement, Way, ends, makes, adds, begins, Goes}
+use Rattle.tt_plain.proofs.Ways.{step_goes}
 use Rattle.tt_plain.specs.Replay.{Run, step_of, replay_from, replay_of}
-
--- each entry beside what it was told: a reply just where the entry ends its statement
-abbrev pub AnswersEach : List Entry → List (Option Reply) → Type 0
-AnswersEach [] [] = ⊤
-AnswersEach [] (r ∷ replies) = ⊥
-AnswersEach (entry ∷ entries) [] = ⊥
-AnswersEach (entry ∷ entries) (r ∷ replies) = (is_some r ≡ ends_statement entry.kind) × AnswersEach entries replies
+use Rattle.tt_plain.specs.Ways.{AnswersEach}
 
 -- ---- one entry
 

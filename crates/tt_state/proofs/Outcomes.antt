@@ -19,15 +19,16 @@ use Rattle.tt_plain.specs.declared.plain.PlainTable.{PlainTable}
 use Rattle.tt_plain.specs.Statements.{is_definition, is_started}
 use Rattle.tt_plain.specs.Carried.{IsCarried, creates, inserts, queries}
 use Rattle.tt_plain.specs.Store.{next_statement, open_statement, with_ended}
-use Rattle.tt_plain.specs.StoreLaws.{open_is}
+use Rattle.tt_plain.proofs.Turns.{open_is}
 use Rattle.tt_plain.specs.InsertRows.{insert_open, added_rows, added_to, with_commit}
 use Rattle.tt_plain.specs.SelectRows.{query_open, rows_read}
 use Rattle.tt_plain.specs.Refusals.{opened_of}
 use Rattle.tt_plain.specs.Replay.{step_of}
-use Rattle.tt_plain.specs.StepLaws.{entry_at, started, start_refused, start_without_memory, define_done, define_refused, define_without_memory, query_ended, insert_ended}
+use Rattle.tt_plain.specs.NextEntry.{entry_at}
+use Rattle.tt_plain.proofs.Steps.{started, start_refused, start_without_memory, define_done, define_refused, define_without_memory, query_ended, insert_ended}
 use Rattle.tt_plain.specs.SoundStore.{IsSound}
-use Rattle.tt_plain.specs.SoundLaws.{open_known}
-use Rattle.tt_plain.specs.WholeTables.{whole_seen}
+use Rattle.tt_plain.proofs.Sound.{open_known}
+use Rattle.tt_plain.proofs.WholeTables.{whole_seen}
 use Rattle.tt_state.specs.declared.ticket.Seen.{Seen}
 use Rattle.tt_state.specs.declared.ticket.Started.{Started}
 use Rattle.tt_state.specs.declared.ticket.Started.TheVariants as begun

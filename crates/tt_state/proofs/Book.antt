@@ -9,7 +9,7 @@ use Rattle.tt_plain.specs.Answers.{◌>>=◌}
 use Rattle.tt_plain.specs.Limits.{entry_limit}
 use Rattle.tt_plain.specs.Store.{empty_store}
 use Rattle.tt_plain.specs.Replay.{step_of, replay_of, replay_from, after, replay_of-snoc}
-use Rattle.tt_plain.specs.SoundLaws.{empty_sound, owed-empty, step_moved}
+use Rattle.tt_plain.proofs.Sound.{empty_sound, owed-empty, step_moved}
 use Rattle.tt_state.specs.Book.{Book, StandsFor, MadeEntry}
 
 pub begins : (program : Script) (cap room : ℕ) → IsProgram program → entry_limit program ≤ room → StandsFor (record { program = program; cap = cap; history = []; store = empty_store program }) room

@@ -1,9 +1,9 @@
 -- The answer of a query of a whole table is the table's rows.
-use Rattle.std.proofs.Common.{◌≡◌, ℕ, Bool, true, false, List, [], ◌∷◌, length, map, Option, Some, None, refl, ◌∙◌, ap, arith}
+use Rattle.std.proofs.Common.{◌≡◌, ℕ, true, false, List, [], ◌∷◌, length, map, Some, None, refl, ◌∙◌, ap, arith}
 use Rattle.std.specs.Prelude.{◌&&◌, ◌==◌, is_none}
 use Rattle.std.specs.Option.{option_map}
 use Rattle.std.specs.List.{filter}
-use Rattle.std.proofs.lemmas.Bool.{false≢true}
+use Rattle.std.proofs.lemmas.Bool.{false≢true, and_parts}
 use Rattle.std.proofs.lemmas.Bool.Decides.{nat_tests}
 use Rattle.tt_value.specs.declared.value.Row.{Row}
 use Rattle.tt_value.specs.values.Order.{row_cmp}
@@ -20,6 +20,7 @@ use Rattle.tt_plain.specs.declared.plain.PlainOpen.{PlainOpen}
 use Rattle.tt_plain.specs.declared.plain.PlainTable.{PlainTable}
 use Rattle.tt_plain.specs.SoundStore.{SeeBags}
 use Rattle.tt_plain.specs.SelectRows.{query_answer, rows_read, seen_schemas}
+use Rattle.tt_plain.proofs.Tests.{none_is}
 
 -- ---- the parts of such a query
 
@@ -31,26 +32,18 @@ pub record IsWhole (query : Query) : Type 0 where
   pub order_is : query.order ≡ []
   pub limit_is : query.limit ≡ None
 
-and_true : (a b : Bool) → (a && b) ≡ true → (a ≡ true) × (b ≡ true)
-and_true true b e = (refl, e)
-and_true false b e = absurd (false≢true e)
-
-none_is : {A : Type 0} (o : Option A) → is_none o ≡ true → o ≡ None
-none_is None e = refl
-none_is (Some x) e = absurd (false≢true e)
-
 nil_is : {A : Type 0} (xs : List A) → (length xs == 0) ≡ true → xs ≡ []
 nil_is [] e = refl
 nil_is (x ∷ xs) e = let none : length (x ∷ xs) ≡ 0 = grind (arith, nat_tests) in absurd (omega (arith, none))
 
 pub is_whole : (query : Query) → is_plain_query query ≡ true → IsWhole query
 is_whole query e =
-    let all = and_true (is_star query.selection && reads_whole_table query) (ends_behind_rows query) e in
-    let parts = and_true (is_star query.selection) (reads_whole_table query) all.0 in
-    let filter = and_true (is_none query.first.clause && length query.joins == 0) (is_none query.filter) parts.1 in
-    let sources = and_true (is_none query.first.clause) (length query.joins == 0) filter.0 in
-    let behind = and_true (length query.group == 0 && length query.order == 0) (is_none query.limit) all.1 in
-    let lists = and_true (length query.group == 0) (length query.order == 0) behind.0 in
+    let all = and_parts (is_star query.selection && reads_whole_table query) (ends_behind_rows query) e in
+    let parts = and_parts (is_star query.selection) (reads_whole_table query) all.0 in
+    let filter = and_parts (is_none query.first.clause && length query.joins == 0) (is_none query.filter) parts.1 in
+    let sources = and_parts (is_none query.first.clause) (length query.joins == 0) filter.0 in
+    let behind = and_parts (length query.group == 0 && length query.order == 0) (is_none query.limit) all.1 in
+    let lists = and_parts (length query.group == 0) (length query.order == 0) behind.0 in
     record {
       star = parts.0;
       joins_are = nil_is query.joins sources.1;

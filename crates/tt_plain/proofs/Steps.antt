@@ -1,6 +1,5 @@
 -- What each kind of entry does, one equation for each way that it may go.
-use Rattle.std.proofs.Common.{◌≡◌, ℕ, ◌+◌, true, Option, Some, None, Result, List, [], length, refl, ◌∙◌, arith, ◌==◌}
-use Rattle.std.proofs.lemmas.Bool.Decides.{nat_tests}
+use Rattle.std.proofs.Common.{◌≡◌, ℕ, ◌+◌, true, Option, Some, None, Result, List, [], length, refl, ◌∙◌}
 use Rattle.tt_value.specs.declared.value.Row.{Row}
 use Rattle.tt_script.specs.declared.script.Script.{Script}
 use Rattle.tt_sql.specs.declared.change.Insert.{Insert}
@@ -8,10 +7,8 @@ use Rattle.tt_sql.specs.declared.change.Dml.TheVariants as dml
 use Rattle.tt_sql.specs.declared.query.Query.{Query}
 use Rattle.tt_sql.specs.declared.statement.Statement.{Statement}
 use Rattle.tt_sql.specs.declared.statement.Statement.TheVariants as statement
-use Rattle.tt_history.specs.declared.history.Entry.{Entry}
 use Rattle.tt_history.specs.declared.history.EntryKind.{EntryKind}
 use Rattle.tt_history.specs.declared.history.EntryKind.TheVariants as kind
-use Rattle.tt_history.specs.declared.history.Actor.TheVariants as actor
 use Rattle.tt_history.specs.declared.history.Told.TheVariants as told
 use Rattle.tt_history.specs.declared.reply.Reply.TheVariants as reply
 use Rattle.tt_history.specs.declared.reply.Refusal.{Refusal}
@@ -27,13 +24,8 @@ use Rattle.tt_plain.specs.EndEntry.{end_step}
 use Rattle.tt_plain.specs.AbandonEntry.{abandon_step}
 use Rattle.tt_plain.specs.DefineEntry.{define_step, defined}
 use Rattle.tt_plain.specs.Replay.{step_of, session_step}
-
--- a session's entry that comes next
-abbrev pub entry_at : Plain → ℕ → ℕ → EntryKind → Entry
-entry_at store session index kind = record { moment = store.moment + 1; actor = actor.Session session; index = index; kind = kind }
-
-same_test : (n : ℕ) → (n == n) ≡ true
-same_test n = grind (arith, nat_tests)
+use Rattle.tt_plain.specs.NextEntry.{entry_at}
+use Rattle.tt_plain.proofs.Tests.{same_test}
 
 step_of-entry_at : (program : Script) (store : Plain) (session index : ℕ) (kind : EntryKind) → step_of program store (entry_at store session index kind) ≡ session_step program store (store.moment + 1) session index kind
 unfolding step_of

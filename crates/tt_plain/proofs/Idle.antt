@@ -10,18 +10,17 @@ use Rattle.tt_history.specs.declared.history.Actor.TheVariants.{Session}
 use Rattle.tt_history.specs.declared.history.EntryKind.{EntryKind}
 use Rattle.tt_history.specs.declared.reply.Reply.{Reply}
 use Rattle.tt_plain.specs.declared.plain.Plain.{Plain}
-use Rattle.tt_plain.specs.AnswersLaws.{bind_some}
-use Rattle.tt_plain.specs.Leads.{leads_at}
+use Rattle.tt_plain.proofs.Answers.{bind_some}
+use Rattle.tt_plain.proofs.Leads.{leads_at}
 use Rattle.tt_plain.specs.Store.{with_ended, table_numbered}
 use Rattle.tt_plain.specs.CreateTable.{with_table}
 use Rattle.tt_plain.specs.InsertRows.{with_commit, with_rows}
 use Rattle.tt_plain.specs.Replay.{step_of}
-use Rattle.tt_plain.specs.StepLaws.{entry_at}
-use Rattle.tt_plain.specs.Ways.{IsTurn, of_next, of_open, Way, ends, makes, adds, begins, Goes, step_goes}
-
--- the session is idle, and this many of its statements are done
-abbrev pub IsIdle : Plain → ℕ → ℕ → Type 0
-IsIdle store session done = slice_get store.sessions session ≡ Some (record { done = done; running = None })
+use Rattle.tt_plain.specs.NextEntry.{entry_at}
+use Rattle.tt_plain.specs.Turns.{IsTurn, of_next, of_open}
+use Rattle.tt_plain.specs.Ways.{Way, ends, makes, adds, begins, Goes}
+use Rattle.tt_plain.proofs.Ways.{step_goes}
+use Rattle.tt_plain.specs.Turns.{IsIdle}
 
 set_here : {A : Type 0} (xs : List A) (i : ℕ) (x : A) → i < length xs → slice_get (slice_set xs i x) i ≡ Some x
 set_here [] i x less = absurd (omega arith)

@@ -1,7 +1,7 @@
 -- The refusals of statements that read, change or make one table.
 use Rattle.std.proofs.Common.{◌≡◌, ℕ, Bool, true, false, List, [], ◌∷◌, Some, None, refl, sym, ◌∙◌, ap, Result}
 use Rattle.std.specs.Prelude.{◌&&◌, not, is_none}
-use Rattle.std.proofs.lemmas.Bool.{false≢true}
+use Rattle.std.proofs.lemmas.Bool.{false≢true, and_parts}
 use Rattle.std.proofs.lemmas.Option.{none-some}
 use Rattle.tt_script.specs.declared.script.Script.{Script}
 use Rattle.tt_value.specs.declared.name.TableName.{TableName}
@@ -17,13 +17,14 @@ use Rattle.tt_sql.specs.trees.Built.{is_permanent, has_values, built}
 use Rattle.tt_history.specs.declared.reply.Refusal.TheVariants.{UnknownTable, TableExists}
 use Rattle.tt_plain.specs.declared.plain.Plain.{Plain}
 use Rattle.tt_plain.specs.declared.plain.PlainTable.{PlainTable}
-use Rattle.tt_plain.specs.Tables.{tables_of, source_tables, TakesFromOneTable, IsOverOneTable}
+use Rattle.tt_plain.specs.Tables.{source_tables, TakesFromOneTable}
 use Rattle.tt_plain.specs.Places.{table_begin}
-use Rattle.tt_plain.specs.NamedTables.{live_at, made_tables, schemas_of}
+use Rattle.tt_plain.specs.NamedTables.{live_at, schemas_of, IsOnTable}
 use Rattle.tt_plain.specs.TypingRefusal.{typing_refusal}
 use Rattle.tt_plain.specs.Refusals.{refusal_over, refusal_in, refusal_of}
-use Rattle.tt_plain.specs.StoreLaws.{IsNext, next_from}
-use Rattle.tt_plain.specs.WholeTables.{is_whole}
+use Rattle.tt_plain.specs.Turns.{IsNext}
+use Rattle.tt_plain.proofs.Turns.{next_from}
+use Rattle.tt_plain.proofs.WholeTables.{is_whole}
 
 -- a session's next statement is refused as what it is
 pub next_refusal : (program : Script) (store : Plain) (session index moment : ℕ) (read : Result Statement ℕ) → IsNext program store session index read → refusal_of program store session index moment ≡ refusal_in store read
@@ -31,11 +32,6 @@ unfolding refusal_of
 next_refusal program store session index moment read n = rw (next_from program store session index read n.state n.at.state_is n.idle n.counted n.said) refl
 
 -- ---- statements that read or change one table, and make none
-
-pub record IsOnTable (s : Statement) (name : TableName) : Type 0 where
-  pub tables : tables_of s ≡ name ∷ []
-  pub alone : IsOverOneTable s
-  pub makes : made_tables s ≡ []
 
 values_alone : (s : InsertSource) → has_values s ≡ true → (source_tables s ≡ []) × TakesFromOneTable s
 values_alone (source.Values tuples) h = (refl, tt)
@@ -70,17 +66,13 @@ on_table_lives tables s name on free none = none-some (UnknownTable (table_begin
 
 -- ---- CREATE TABLE
 
-and_true : (a b : Bool) → (a && b) ≡ true → (a ≡ true) × (b ≡ true)
-and_true true b e = (refl, e)
-and_true false b e = absurd (false≢true e)
-
 not_true : (b : Bool) → not b ≡ true → b ≡ false
 not_true false e = refl
 not_true true e = absurd (false≢true e)
 
 pub created_keeps : (create : CreatedTable) → built (statement.Create create) ≡ true → create.replaces ≡ false
 created_keeps create h =
-    not_true create.replaces (and_true _ _ (and_true _ _ (and_true (not create.replaces && is_permanent create.kind && is_none create.options.cluster_by) (is_none create.options.retention) h).0).0).0
+    not_true create.replaces (and_parts _ _ (and_parts _ _ (and_parts (not create.replaces && is_permanent create.kind && is_none create.options.cluster_by) (is_none create.options.retention) h).0).0).0
 
 pub created_exists : (tables : List PlainTable) (create : CreatedTable) (table : PlainTable) → create.replaces ≡ false → live_at tables create.table ≡ Some table → refusal_over tables (statement.Create create) ≡ Some (TableExists (table_begin create.table))
 unfolding refusal_over

@@ -9,9 +9,7 @@ use Rattle.tt_history.specs.declared.history.Entry.{Entry}
 use Rattle.tt_history.specs.declared.history.Actor.TheVariants.{Session}
 use Rattle.tt_history.specs.Projection.{is_session}
 use Rattle.tt_plain.specs.SerialOrder.{entries_of, by_session, IsSerialOrder, NoneBehind}
-
-same_test : (n : ℕ) → (n == n) ≡ true
-same_test n = grind (arith, nat_tests)
+use Rattle.tt_plain.proofs.Tests.{same_test}
 
 other_test : (m n : ℕ) → (m ≡ n → ⊥) → (m == n) ≡ false
 other_test m n other = grind (arith, nat_tests)

@@ -1,9 +1,8 @@
 -- What it means that a session's next or open statement was found.
-use Rattle.std.proofs.Common.{◌≡◌, ℕ, ◌+◌, ◌-◌, ◌<◌, Bool, true, false, Option, Some, None, Result, Ok, Err, List, length, refl, sym, ◌∙◌, ap, subst, arith, ◌&&◌, ◌==◌}
+use Rattle.std.proofs.Common.{◌≡◌, ℕ, ◌+◌, ◌-◌, ◌<◌, true, Some, None, Result, Ok, Err, List, length, refl, sym, ◌∙◌, ap, subst, arith, ◌&&◌, ◌==◌}
 use Rattle.std.specs.Prelude.{slice_get, is_none}
 use Rattle.std.specs.Option.{option_map}
 use Rattle.std.proofs.lemmas.Option.{slice_get_within, some_pair_parts, none-some, same_Some}
-use Rattle.std.proofs.lemmas.Bool.{false≢true}
 use Rattle.std.proofs.lemmas.Bool.Decides.{nat_tests}
 use Rattle.tt_script.specs.declared.script.Script.{Script}
 use Rattle.tt_script.specs.declared.script.SessionText.{SessionText}
@@ -14,34 +13,14 @@ use Rattle.tt_plain.specs.declared.plain.Plain.{Plain}
 use Rattle.tt_plain.specs.declared.plain.PlainSession.{PlainSession}
 use Rattle.tt_plain.specs.declared.plain.PlainOpen.{PlainOpen}
 use Rattle.tt_plain.specs.Answers.{only_if}
-use Rattle.tt_plain.specs.AnswersLaws.{bind_some, map_some, and_then_some, only_if_some}
+use Rattle.tt_plain.proofs.Answers.{bind_some, map_some, and_then_some, only_if_some}
 use Rattle.tt_plain.specs.Statements.{statement_at, carried_out, carried_at}
-use Rattle.tt_plain.specs.Carried.{IsCarried, is_carried}
+use Rattle.tt_plain.specs.Carried.{IsCarried}
+use Rattle.tt_plain.proofs.Carried.{is_carried}
 use Rattle.tt_plain.specs.Store.{tree_of, next_statement, open_statement}
-
--- the session's place, its lines in the script, and its state; the statement is one of its lines
-pub record IsAt (program : Script) (store : Plain) (session index : ℕ) (lines : SessionText) (state : PlainSession) : Type 0 where
-  pub lines_are : slice_get program.sessions session ≡ Some lines
-  pub state_is : slice_get store.sessions session ≡ Some state
-  pub within : index - 1 < length lines.statements
-
-pub record IsNext (program : Script) (store : Plain) (session index : ℕ) (read : Result Statement ℕ) : Type 0 where
-  pub lines : SessionText
-  pub state : PlainSession
-  pub at : IsAt program store session index lines state
-  pub idle : state.running ≡ None
-  pub counted : index ≡ state.done + 1
-  pub said : carried_at program session index ≡ Some read
-  pub carried : IsCarried read
-
-pub record IsOpen (program : Script) (store : Plain) (session index : ℕ) (statement : Statement) (seen : PlainOpen) : Type 0 where
-  pub lines : SessionText
-  pub state : PlainSession
-  pub at : IsAt program store session index lines state
-  pub running : state.running ≡ Some seen
-  pub counted : seen.index ≡ index
-  pub said : carried_at program session index ≡ Some (Ok statement)
-  pub carried : IsCarried (Ok statement)
+use Rattle.tt_plain.specs.Turns.{IsNext, IsOpen}
+use Rattle.std.proofs.lemmas.Bool.{and_parts}
+use Rattle.tt_plain.proofs.Tests.{none_is, same_number}
 
 -- what stands at a session's statement
 record IsSaid (program : Script) (session index : ℕ) (read : Result Statement ℕ) : Type 0 where
@@ -63,17 +42,6 @@ is_said program session index read e =
       carried = subst IsCarried raw.2 (is_carried raw.0);
     }
 
-and_true : (a b : Bool) → (a && b) ≡ true → (a ≡ true) × (b ≡ true)
-and_true true b e = (refl, e)
-and_true false b e = absurd (false≢true e)
-
-none_is : {A : Type 0} (o : Option A) → is_none o ≡ true → o ≡ None
-none_is None e = refl
-none_is (Some x) e = absurd (false≢true e)
-
-same_number : (m n : ℕ) → (m == n) ≡ true → m ≡ n
-same_number m n e = grind (arith, nat_tests)
-
 tree_is : (read : Result Statement ℕ) (s : Statement) → tree_of read ≡ Some s → read ≡ Ok s
 tree_is (Ok t) s e = ap Ok (same_Some t s e)
 tree_is (Err place) s e = absurd (none-some s e)
@@ -84,7 +52,7 @@ next_is program store session index read e =
     let state = bind_some (slice_get store.sessions session) _ read e in
     let idle = bind_some (only_if (is_none state.0.running && index == state.0.done + 1) state.0) _ read state.2 in
     let tests = only_if_some _ state.0 idle.0 idle.1 in
-    let both = and_true (is_none state.0.running) (index == state.0.done + 1) tests.0 in
+    let both = and_parts (is_none state.0.running) (index == state.0.done + 1) tests.0 in
     let said = is_said program session index read idle.2 in
     record {
       lines = said.lines;

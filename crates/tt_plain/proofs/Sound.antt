@@ -22,21 +22,23 @@ use Rattle.tt_plain.specs.declared.plain.PlainSession.{PlainSession}
 use Rattle.tt_plain.specs.declared.plain.PlainOpen.{PlainOpen}
 use Rattle.tt_plain.specs.declared.plain.Version.{Version}
 use Rattle.tt_plain.specs.Answers.{◌>>=◌}
-use Rattle.tt_plain.specs.AnswersLaws.{bind_some}
-use Rattle.tt_plain.specs.Leads.{leads_at}
+use Rattle.tt_plain.proofs.Answers.{bind_some}
+use Rattle.tt_plain.proofs.Leads.{leads_at}
 use Rattle.tt_plain.specs.Limits.{statement_count, statements_in, entry_limit}
 use Rattle.tt_plain.specs.Carried.{IsCarried, refuses, creates, inserts, queries}
 use Rattle.tt_plain.specs.Store.{with_ended, with_opened, empty_store, new_session, points_before, point_place, live_table, table_numbered, rows_of_version, current_rows}
-use Rattle.tt_plain.specs.StoreLaws.{IsAt, IsNext, IsOpen}
+use Rattle.tt_plain.specs.Turns.{IsAt, IsNext, IsOpen}
 use Rattle.tt_plain.specs.CreateTable.{with_table, new_table, schema_made}
 use Rattle.tt_plain.specs.InsertRows.{insert_open, with_commit, with_rows}
 use Rattle.tt_plain.specs.SelectRows.{query_open}
 use Rattle.tt_plain.specs.NamedTables.{live_at}
 use Rattle.tt_plain.specs.Refusals.{opened_of}
 use Rattle.tt_plain.specs.Replay.{Run, after, step_of, replay_from, replay_of}
-use Rattle.tt_plain.specs.Ways.{IsTurn, of_next, of_open, Way, ends, makes, adds, begins, Goes, step_goes}
-use Rattle.tt_plain.specs.NamedColumns.{made_by_name, named-push, named-set}
-use Rattle.tt_plain.specs.RefusalLaws.{next_refusal}
+use Rattle.tt_plain.specs.Turns.{IsTurn, of_next, of_open}
+use Rattle.tt_plain.specs.Ways.{Way, ends, makes, adds, begins, Goes}
+use Rattle.tt_plain.proofs.Ways.{step_goes}
+use Rattle.tt_plain.proofs.NamedColumns.{made_by_name, named-push, named-set}
+use Rattle.tt_plain.proofs.Refusals.{next_refusal}
 use Rattle.tt_plain.specs.ValueKinds.{IsFoundByName}
 use Rattle.tt_plain.specs.SoundStore.{AreNumbered, HaveBags, KeepBags, HaveNamedColumns, IsTableNumber, SeeBags, IsKnownOpen, AreKnownOpen, owed_by, owed, IsSound}
 

@@ -14,10 +14,10 @@ use Rattle.tt_plain.specs.declared.plain.PlainTable.{PlainTable}
 use Rattle.tt_plain.specs.WrongCounts.{is_name, mention, mentions, defined_again, defined_names, places_of, miscounted_columns}
 use Rattle.tt_plain.specs.CreateTable.{column_made, schema_made}
 use Rattle.tt_plain.specs.Refusals.{refusal_over}
-use Rattle.tt_plain.specs.ListLaws.{nil_both, same_itself, position_here, position_later}
+use Rattle.tt_plain.proofs.Lists.{nil_both, same_itself, position_here, position_later}
 use Rattle.tt_plain.specs.SoundStore.{HaveNamedColumns}
 use Rattle.tt_plain.specs.ValueKinds.{IsFoundByName}
-use Rattle.tt_plain.specs.TypingLaws.{free_is_typed}
+use Rattle.tt_plain.proofs.Typing.{free_is_typed}
 
 -- ---- the columns of a CREATE TABLE that is not refused
 

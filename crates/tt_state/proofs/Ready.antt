@@ -14,15 +14,15 @@ use Rattle.tt_history.specs.declared.history.Told.TheVariants as told
 use Rattle.tt_history.specs.declared.reply.Reply.{Reply}
 use Rattle.tt_plain.specs.declared.plain.Plain.{Plain}
 use Rattle.tt_plain.specs.declared.plain.PlainSession.{PlainSession}
-use Rattle.tt_plain.specs.AnswersLaws.{bind_some}
+use Rattle.tt_plain.proofs.Answers.{bind_some}
 use Rattle.tt_plain.specs.Carried.{IsCarried, creates, inserts, queries}
 use Rattle.tt_plain.specs.CreateTable.{with_table}
 use Rattle.tt_plain.specs.DefineEntry.{defined}
 use Rattle.tt_plain.specs.InsertRows.{with_commit, with_rows}
 use Rattle.tt_plain.specs.Limits.{statement_count, statements_in}
-use Rattle.tt_plain.specs.LimitsLaws.{few_statements}
+use Rattle.tt_plain.proofs.Limits.{few_statements}
 use Rattle.tt_plain.specs.Store.{table_numbered}
-use Rattle.tt_plain.specs.StoreLaws.{IsAt}
+use Rattle.tt_plain.specs.Turns.{IsAt}
 use Rattle.tt_plain.specs.SoundStore.{IsSound}
 use Rattle.tt_state.specs.Outcomes.{CarriesOut}
 use Rattle.tt_state.specs.Ready.{IsReady}
