@@ -19,6 +19,7 @@ use tt_terminal::error::ParseError;
 use tt_terminal::kind::LexemeKind;
 use tt_terminal::literal::{date_literal, int_literal, null_literal, text_literal, whole_literal};
 use tt_terminal::name::{optional_name, optional_negative, optional_number};
+use tt_terminal::pair::{followed, paired};
 use tt_terminal::quoted::{optional_day, optional_quoted};
 use tt_terminal::rest::Rest;
 
@@ -98,8 +99,8 @@ pub fn expr_of<'a>(
     ensures given { IfOk result (λ x. IsGivenExpr x.0) }
 {
     let (first, behind) = term_of(alloc, levels, rest)?;
-    let (others, end) = addends_of(alloc, levels, behind)?;
-    Ok((Expr { first, others }, end))
+    let (head, others, end) = paired(first, addends_of(alloc, levels, behind))?;
+    Ok((Expr { first: head, others }, end))
 }
 
 /// Further terms, with their signs.
@@ -130,8 +131,8 @@ fn term_of<'a>(alloc: Global, levels: u32, rest: Rest<'a>) -> Result<(Term, Rest
     ensures given { IfOk result (λ x. IsGivenTerm x.0) }
 {
     let (first, behind) = factor_of(alloc, levels, rest)?;
-    let (others, end) = factors_of(alloc, levels, behind)?;
-    Ok((Term { first, others }, end))
+    let (head, others, end) = paired(first, factors_of(alloc, levels, behind))?;
+    Ok((Term { first: head, others }, end))
 }
 
 /// Further factors.
@@ -204,10 +205,8 @@ fn nested_of<'a>(
 {
     if let Some((place, inside)) = rest.placed(LexemeKind::Open) {
         let (expr, behind) = expr_of(alloc, levels, inside)?;
-        let Some(end) = behind.word(LexemeKind::Close) else {
-            return Err(behind.fault());
-        };
-        return Ok((Factor::Bracket(place, Boxed::new(alloc, expr)?), end));
+        let (whole, end) = followed(LexemeKind::Close, expr, behind)?;
+        return Ok((Factor::Bracket(place, Boxed::new(alloc, whole)?), end));
     }
     let Some((place, behind)) = rest.placed(LexemeKind::Minus) else {
         return Err(rest.fault());

@@ -16,8 +16,8 @@ use sqlite_items::{Boxed, Items};
 use std::alloc::Global;
 use tt_sql::{Conjunction, Predicate, Unit};
 use tt_terminal::error::ParseError;
-use tt_terminal::fixed::after;
 use tt_terminal::kind::LexemeKind;
+use tt_terminal::pair::{followed, paired};
 use tt_terminal::rest::Rest;
 
 /// The predicate that has to stand here, with so many levels left.
@@ -32,8 +32,8 @@ pub fn predicate_of<'a>(
     ensures given { IfOk result (λ x. IsGivenPredicate x.0) }
 {
     let (first, behind) = conjunction_of(alloc, levels, rest)?;
-    let (others, end) = conjunctions_of(alloc, levels, behind)?;
-    Ok((Predicate { first, others }, end))
+    let (head, others, end) = paired(first, conjunctions_of(alloc, levels, behind))?;
+    Ok((Predicate { first: head, others }, end))
 }
 
 /// Further conjunctions.
@@ -68,8 +68,8 @@ fn conjunction_of<'a>(
     ensures given { IfOk result (λ x. IsGivenConjunction x.0) }
 {
     let (first, behind) = unit_of(alloc, levels, rest)?;
-    let (others, end) = units_of(alloc, levels, behind)?;
-    Ok((Conjunction { first, others }, end))
+    let (head, others, end) = paired(first, units_of(alloc, levels, behind))?;
+    Ok((Conjunction { first: head, others }, end))
 }
 
 /// Further units.
@@ -118,8 +118,8 @@ fn deeper_of<'a>(alloc: Global, levels: u32, rest: Rest<'a>) -> Result<(Unit, Re
     }
     if let Some(inside) = rest.word(LexemeKind::Open) {
         let (predicate, behind) = predicate_of(alloc, levels, inside)?;
-        let end = after(LexemeKind::Close, behind)?;
-        return Ok((Unit::Bracket(Boxed::new(alloc, predicate)?), end));
+        let (whole, end) = followed(LexemeKind::Close, predicate, behind)?;
+        return Ok((Unit::Bracket(Boxed::new(alloc, whole)?), end));
     }
     simple_of(alloc, rest)
 }

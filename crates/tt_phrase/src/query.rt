@@ -4,13 +4,14 @@ ghost use Rattle.std.specs.Prelude.{◌≡◌, ◌≤◌, [], ◌∷◌, ◌++�
 ghost use Rattle.tt_sql.specs.grammar.Grammar.{At};
 ghost use Rattle.tt_sql.specs.machine.Factored.{read_query, read_query_end};
 ghost use Rattle.tt_sql.specs.marks.Expressions.{flag_marks, listed_marks, maybe_marks, column_marks, number_marks, table_marks};
-ghost use Rattle.tt_sql.specs.trees.Lists.{Each};
+ghost use Rattle.tt_sql.specs.trees.Lists.{Each, WhenThere};
+ghost use Rattle.tt_sql.specs.determined.Expressions.{IsGivenPredicate};
 ghost use Rattle.tt_sql.specs.determined.Queries.{IsAlone, IsAloneTable, IsGivenKey, IsGivenKeyColumn, IsGivenQuery, IsGivenSelection};
 ghost use Rattle.tt_sql.specs.marks.Queries.{key_marks, key_column_marks, maybe_listed, query_marks, selection_marks};
 ghost use Rattle.tt_sql.specs.grammar.Combinators.{listed, maybe, name as name_part, number as number_part, one, way, ◌▸◌, ◌∣◌};
 ghost use Rattle.tt_sql.specs.grammar.TokenKinds.{ASC, BY, DESC, GROUP, LIMIT, ORDER};
 ghost use Rattle.tt_sql.specs.grammar.Written.{key};
-ghost use Rattle.tt_phrase.specs.QueryEnds.{IsGivenQueryEnd, query_end_marks};
+ghost use Rattle.tt_phrase.specs.QueryEnds.{IsGivenQueryEnd, IsGivenQueryTail, filtered, filtered_marks, query_end_marks, query_tail, query_tail_marks};
 ghost use Rattle.tt_terminal.specs.Reading.{IsKnown, Passes, Reads};
 
 use crate::item::selection_of;
@@ -25,16 +26,23 @@ use tt_terminal::error::ParseError;
 use tt_terminal::fixed::{after, place_of};
 use tt_terminal::kind::LexemeKind;
 use tt_terminal::name::{column_of, number_of, optional_name, table_of};
+use tt_terminal::pair::paired;
 use tt_terminal::rest::Rest;
+
+/// What stands behind the filter of a query.
+#[derive(Drop)]
+pub struct QueryTail {
+    pub group: Items<ColumnName>,
+    pub order: Items<Key>,
+    pub limit: Option<Number>,
+}
 
 /// What stands behind the table of a query.
 #[derive(Drop)]
 pub struct QueryEnd {
     pub clause: Option<Clause>,
     pub filter: Option<Predicate>,
-    pub group: Items<ColumnName>,
-    pub order: Items<Key>,
-    pub limit: Option<Number>,
+    pub tail: QueryTail,
 }
 
 /// What a key of ORDER BY orders by.
@@ -155,6 +163,38 @@ fn limit_of(rest: Rest<'_>) -> Result<(Option<Number>, Rest<'_>), ParseError>
     Ok((Some(number), rest))
 }
 
+/// What stands behind the filter of a query.
+fn tail_of<'a>(alloc: Global, rest: Rest<'a>) -> Result<(QueryTail, Rest<'a>), ParseError>
+    requires { IsKnown rest }
+    ensures reads { Reads (λ x. query_tail_marks x.0) (λ x. x.1) query_tail rest.entry result }
+    ensures given { IfOk result (λ x. IsGivenQueryTail x.0) }
+{
+    let (group, rest) = group_of(alloc, rest)?;
+    let (order, rest) = order_of(alloc, rest)?;
+    let (limit, rest) = limit_of(rest)?;
+    let tail = QueryTail {
+        group,
+        order,
+        limit,
+    };
+    Ok((tail, rest))
+}
+
+/// The filter of a query, and what stands behind it.
+fn filtered_of<'a>(
+    alloc: Global,
+    levels: u32,
+    rest: Rest<'a>,
+) -> Result<(Option<Predicate>, QueryTail, Rest<'a>), ParseError>
+    requires { IsKnown rest }
+    ensures reads { Reads (λ x. filtered_marks x.0 x.1) (λ x. x.2) (filtered levels) rest.entry result }
+    ensures filter { IfOk result (λ x. WhenThere IsGivenPredicate x.0) }
+    ensures tail { IfOk result (λ x. IsGivenQueryTail x.1) }
+{
+    let (filter, rest) = filter_of(alloc, levels, rest)?;
+    paired(filter, tail_of(alloc, rest))
+}
+
 /// What stands behind the table of a query.
 fn query_end_of<'a>(
     alloc: Global,
@@ -166,16 +206,11 @@ fn query_end_of<'a>(
     ensures given { IfOk result (λ x. IsGivenQueryEnd x.0) }
 {
     let (clause, rest) = optional_clause(alloc, rest)?;
-    let (filter, rest) = filter_of(alloc, levels, rest)?;
-    let (group, rest) = group_of(alloc, rest)?;
-    let (order, rest) = order_of(alloc, rest)?;
-    let (limit, rest) = limit_of(rest)?;
+    let (filter, tail, rest) = filtered_of(alloc, levels, rest)?;
     let end = QueryEnd {
         clause,
         filter,
-        group,
-        order,
-        limit,
+        tail,
     };
     Ok((end, rest))
 }
@@ -198,9 +233,9 @@ fn query_with(
         first: Source { table, clause },
         joins: Items::new(alloc),
         filter: end.filter,
-        group: end.group,
-        order: end.order,
-        limit: end.limit,
+        group: end.tail.group,
+        order: end.tail.order,
+        limit: end.tail.limit,
     }
 }
 

@@ -13,7 +13,7 @@ ghost use Rattle.tt_sql.specs.grammar.TokenKinds.{CLOSE, COMMA, OPEN, STARTSWITH
 ghost use Rattle.tt_sql.specs.grammar.Written.{compare, literal as literal_part};
 ghost use Rattle.tt_phrase.specs.Selects.{Follow};
 ghost use Rattle.tt_terminal.specs.Fronts.{begins};
-ghost use Rattle.tt_phrase.specs.Predicates.{Completes};
+ghost use Rattle.tt_phrase.specs.Predicates.{Completes, bounds, bounds_marks};
 ghost use Rattle.tt_terminal.specs.Reading.{IsKnown, Offers, Reads, first_kind, seen};
 
 use crate::expression::optional_date;
@@ -26,6 +26,7 @@ use tt_terminal::fixed::{after, flag_of};
 use tt_terminal::kind::LexemeKind;
 use tt_terminal::literal::literal_of;
 use tt_terminal::name::{column_of, optional_name};
+use tt_terminal::pair::{followed, paired};
 use tt_terminal::quoted::quoted_of;
 use tt_terminal::rest::Rest;
 
@@ -85,6 +86,23 @@ fn bracketed_literals<'a>(
     Ok((literals, rest))
 }
 
+/// BETWEEN with its bounds.
+fn bounds_of<'a>(
+    alloc: Global,
+    rest: Rest<'a>,
+) -> Result<((Literal, Literal), Rest<'a>), ParseError>
+    requires { IsKnown rest }
+    ensures reads { Reads (λ x. bounds_marks x.0) (λ x. x.1) bounds rest.entry result }
+    ensures least { IfOk result (λ x. IsPrintableValue x.0.0.value) }
+    ensures greatest { IfOk result (λ x. IsPrintableValue x.0.1.value) }
+{
+    let rest = after(LexemeKind::Between, rest)?;
+    let (literal, rest) = literal_of(alloc, rest)?;
+    let (first, rest) = followed(LexemeKind::And, literal, rest)?;
+    let (least, greatest, rest) = paired(first, literal_of(alloc, rest))?;
+    Ok(((least, greatest), rest))
+}
+
 /// IN with its literals or BETWEEN with its bounds, behind an operand and NOT, where that stands there.
 fn choice_of<'a>(
     alloc: Global,
@@ -98,14 +116,12 @@ fn choice_of<'a>(
     ensures given { IfOk result (λ x. IsGivenUnit x.0) }
 {
     if let Some(rest) = rest.word(LexemeKind::In) {
-        let (literals, rest) = bracketed_literals(alloc, rest)?;
-        return Ok((Unit::In(operand, negated, literals), rest));
+        let (tested, literals, rest) = paired(operand, bracketed_literals(alloc, rest))?;
+        return Ok((Unit::In(tested, negated, literals), rest));
     }
-    let rest = after(LexemeKind::Between, rest)?;
-    let (least, rest) = literal_of(alloc, rest)?;
-    let rest = after(LexemeKind::And, rest)?;
-    let (greatest, rest) = literal_of(alloc, rest)?;
-    Ok((Unit::Between(operand, negated, least, greatest), rest))
+    let (tested, bounds, rest) = paired(operand, bounds_of(alloc, rest))?;
+    let (least, greatest) = bounds;
+    Ok((Unit::Between(tested, negated, least, greatest), rest))
 }
 
 /// The unit that begins with this operand.
@@ -120,13 +136,13 @@ fn end_of<'a>(
     ensures given { IfOk result (λ x. IsGivenUnit x.0) }
 {
     if let Some((comparison, rest)) = optional_comparison(rest) {
-        let (second, rest) = operand_of(alloc, rest)?;
-        return Ok((Unit::Compare(operand, comparison, second), rest));
+        let (first, second, rest) = paired(operand, operand_of(alloc, rest))?;
+        return Ok((Unit::Compare(first, comparison, second), rest));
     }
     if let Some(rest) = rest.word(LexemeKind::Is) {
         let (negated, rest) = flag_of(LexemeKind::Not, rest);
-        let rest = after(LexemeKind::Null, rest)?;
-        return Ok((Unit::IsNull(operand, negated), rest));
+        let (tested, rest) = followed(LexemeKind::Null, operand, rest)?;
+        return Ok((Unit::IsNull(tested, negated), rest));
     }
     if let Some(rest) = rest.word(LexemeKind::Not) {
         return choice_of(alloc, operand, true, rest);

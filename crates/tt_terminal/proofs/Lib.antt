@@ -5,6 +5,7 @@ pub mod Literals
 pub mod Names
 pub mod Numbers
 pub mod OneOf
+pub mod Pairs
 pub mod Quotes
 pub mod Running
 pub mod Steps

@@ -1,3 +1,4 @@
 pub mod Fronts
 pub mod KindNumbers
+pub mod Pairs
 pub mod Reading

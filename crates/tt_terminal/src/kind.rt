@@ -8,7 +8,7 @@ ghost use Rattle.tt_terminal.specs.KindNumbers.{kind_number};
 
 /// A kind of token. Reserved words come first, then the words that may be names too, and then what is no
 /// word of the language.
-#[derive(Clone, Copy, Debug, PartialEq, Eq)]
+#[derive(Clone, Copy, PartialEq, Eq)]
 pub enum LexemeKind {
     Select,
     From,

@@ -6,6 +6,7 @@ pub mod fixed;
 pub mod kind;
 pub mod literal;
 pub mod name;
+pub mod pair;
 pub mod quoted;
 pub mod rest;
 

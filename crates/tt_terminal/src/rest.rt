@@ -13,7 +13,7 @@ use tt_lex::Token;
 use tt_sql::Syntax as Fault;
 
 /// A token and its kind.
-#[derive(Clone, Copy, Debug)]
+#[derive(Clone, Copy)]
 pub struct Lexed {
     pub token: Token,
     pub kind: LexemeKind,

@@ -6,16 +6,10 @@ pub returns-in_err-clause-clause-reads : goal.returns-in_err-clause-clause-reads
 returns-in_err-clause-clause-reads c = exits _ _ _ _ _ _ c.from_residual.result c.from_residual.ensures.1 (within (λ at f. stops_first f) _ c.in_err-clause.ensures.reads)
 
 pub returns-in_err-filter-clause-reads : goal.returns-in_err-filter-clause-reads
-returns-in_err-filter-clause-reads c = exits _ _ _ _ _ _ c.from_residual-in_err-filter.result c.from_residual-in_err-filter.ensures.1 (within (λ at f. stops_second c.in_ok-clause.ensures.reads (stops_first f)) _ c.in_err-filter.ensures.reads)
-
-pub returns-in_err-group-clause-reads : goal.returns-in_err-group-clause-reads
-returns-in_err-group-clause-reads c = exits _ _ _ _ _ _ c.from_residual-in_err-group.result c.from_residual-in_err-group.ensures.1 (within (λ at f. stops_second c.in_ok-clause.ensures.reads (stops_second c.in_ok-filter.ensures.reads (stops_first f))) _ c.in_err-group.ensures.reads)
-
-pub returns-in_err-order-clause-reads : goal.returns-in_err-order-clause-reads
-returns-in_err-order-clause-reads c = exits _ _ _ _ _ _ c.from_residual-in_err-order.result c.from_residual-in_err-order.ensures.1 (within (λ at f. stops_second c.in_ok-clause.ensures.reads (stops_second c.in_ok-filter.ensures.reads (stops_second c.in_ok-group.ensures.reads (stops_first f)))) _ c.in_err-order.ensures.reads)
-
-pub returns-in_err-limit-clause-reads : goal.returns-in_err-limit-clause-reads
-returns-in_err-limit-clause-reads c = exits _ _ _ _ _ _ c.from_residual-in_err-limit.result c.from_residual-in_err-limit.ensures.1 (within (λ at f. stops_second c.in_ok-clause.ensures.reads (stops_second c.in_ok-filter.ensures.reads (stops_second c.in_ok-group.ensures.reads (stops_second c.in_ok-order.ensures.reads f)))) _ c.in_err-limit.ensures)
+returns-in_err-filter-clause-reads c = exits _ _ _ _ _ _ c.from_residual-in_err-filter.result c.from_residual-in_err-filter.ensures.1 (within (λ at f. stops_second c.in_ok-clause.ensures.reads f) _ c.in_err-filter.ensures.reads)
 
 pub returns-clause-reads : goal.returns-clause-reads
-returns-clause-reads c = passes_both c.in_ok-clause.ensures.reads (passes_both c.in_ok-filter.ensures.reads (passes_both c.in_ok-group.ensures.reads (passes_both c.in_ok-order.ensures.reads c.in_ok-limit.ensures)))
+returns-clause-reads c = passes_both c.in_ok-clause.ensures.reads c.in_ok-filter.ensures.reads
+
+pub returns-clause-given : goal.returns-clause-given
+returns-clause-given c = record { clause = c.in_ok-clause.ensures.given; filter = c.in_ok-filter.ensures.filter; tail = c.in_ok-filter.ensures.tail }
