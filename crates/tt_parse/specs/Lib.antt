@@ -1,4 +1,6 @@
 pub mod Answers
+pub mod Changes
 pub mod Choices
+pub mod Created
 pub mod Lexing
 pub mod Tables

@@ -10,6 +10,8 @@ ghost use Rattle.tt_sql.specs.grammar.Combinators.{brackets, listed, maybe, name
 ghost use Rattle.tt_sql.specs.machine.Factored.{read_delete, read_insert, read_query, read_set, read_update};
 ghost use Rattle.tt_sql.specs.grammar.TokenKinds.{VALUES};
 ghost use Rattle.tt_sql.specs.grammar.Written.{copy, tuple};
+ghost use Rattle.tt_sql.specs.determined.Expressions.{IsGivenPredicate};
+ghost use Rattle.tt_parse.specs.Changes.{changes, changes_marks, inserted, inserted_marks};
 ghost use Rattle.tt_terminal.specs.Reading.{IsKnown, Reads};
 
 use sqlite_items::Items;
@@ -18,11 +20,12 @@ use tt_phrase::expression::expr_of;
 use tt_phrase::literals::literals_of;
 use tt_phrase::predicate::filter_of;
 use tt_phrase::query::query_of;
-use tt_sql::{Copy, Delete, Insert, InsertSource, Name, Set, Tuple, Update};
+use tt_sql::{Copy, Delete, Insert, InsertSource, Name, Predicate, Set, Tuple, Update};
 use tt_terminal::error::ParseError;
 use tt_terminal::fixed::{after, place_of};
 use tt_terminal::kind::LexemeKind;
 use tt_terminal::name::{name_of, table_of};
+use tt_terminal::pair::{followed, paired};
 use tt_terminal::quoted::quoted_of;
 use tt_terminal::rest::Rest;
 
@@ -32,15 +35,16 @@ fn names_of<'a>(alloc: Global, rest: Rest<'a>) -> Result<(Items<Name>, Rest<'a>)
     ensures reads { Reads (λ x. names_marks x.0) (λ x. x.1) (listed name_part) rest.entry result }
     ensures given { IfOk result (λ x. IsListed (λ n. ⊤) x.0) }
 {
-    let (first, mut rest) = name_of(alloc, rest)?;
     let mut names = Items::new(alloc);
-    names.push(first)?;
-    while let Some(behind) = rest.word(LexemeKind::Comma) {
-        let (next, behind) = name_of(alloc, behind)?;
-        names.push(next)?;
-        rest = behind;
+    let mut left = rest;
+    loop {
+        let (part, behind) = name_of(alloc, left)?;
+        names.push(part)?;
+        let Some(next) = behind.word(LexemeKind::Comma) else {
+            return Ok((names, behind));
+        };
+        left = next;
     }
-    Ok((names, rest))
 }
 
 /// The list of columns of an INSERT, if it stands here.
@@ -55,8 +59,8 @@ fn optional_names<'a>(
     let Some(rest) = rest.word(LexemeKind::Open) else {
         return Ok((None, rest));
     };
-    let (names, rest) = names_of(alloc, rest)?;
-    let rest = after(LexemeKind::Close, rest)?;
+    let (list, rest) = names_of(alloc, rest)?;
+    let (names, rest) = followed(LexemeKind::Close, list, rest)?;
     Ok((Some(names), rest))
 }
 
@@ -67,8 +71,8 @@ fn tuple_of<'a>(alloc: Global, rest: Rest<'a>) -> Result<(Tuple, Rest<'a>), Pars
     ensures given { IfOk result (λ x. IsGivenTuple x.0) }
 {
     let (place, rest) = place_of(LexemeKind::Open, rest)?;
-    let (values, rest) = literals_of(alloc, rest)?;
-    let rest = after(LexemeKind::Close, rest)?;
+    let (list, rest) = literals_of(alloc, rest)?;
+    let (values, rest) = followed(LexemeKind::Close, list, rest)?;
     Ok((Tuple { place, values }, rest))
 }
 
@@ -78,15 +82,16 @@ fn tuples_of<'a>(alloc: Global, rest: Rest<'a>) -> Result<(Items<Tuple>, Rest<'a
     ensures reads { Reads (λ x. listed_marks (map tuple_marks x.0)) (λ x. x.1) (listed tuple) rest.entry result }
     ensures given { IfOk result (λ x. IsListed IsGivenTuple x.0) }
 {
-    let (first, mut rest) = tuple_of(alloc, rest)?;
     let mut tuples = Items::new(alloc);
-    tuples.push(first)?;
-    while let Some(behind) = rest.word(LexemeKind::Comma) {
-        let (next, behind) = tuple_of(alloc, behind)?;
-        tuples.push(next)?;
-        rest = behind;
+    let mut left = rest;
+    loop {
+        let (part, behind) = tuple_of(alloc, left)?;
+        tuples.push(part)?;
+        let Some(next) = behind.word(LexemeKind::Comma) else {
+            return Ok((tuples, behind));
+        };
+        left = next;
     }
-    Ok((tuples, rest))
 }
 
 /// COPY INTO.
@@ -97,9 +102,9 @@ pub fn copy_of<'a>(alloc: Global, rest: Rest<'a>) -> Result<(Copy, Rest<'a>), Pa
 {
     let rest = after(LexemeKind::Copy, rest)?;
     let rest = after(LexemeKind::Into, rest)?;
-    let (table, rest) = table_of(alloc, rest)?;
-    let rest = after(LexemeKind::From, rest)?;
-    let (file, rest) = quoted_of(alloc, rest)?;
+    let (name, rest) = table_of(alloc, rest)?;
+    let (into, rest) = followed(LexemeKind::From, name, rest)?;
+    let (table, file, rest) = paired(into, quoted_of(alloc, rest))?;
     Ok((Copy { table, file }, rest))
 }
 
@@ -109,9 +114,9 @@ fn set_of<'a>(alloc: Global, levels: u32, rest: Rest<'a>) -> Result<(Set, Rest<'
     ensures reads { Reads (λ x. set_marks x.0) (λ x. x.1) (read_set levels) rest.entry result }
     ensures given { IfOk result (λ x. IsGivenSet x.0) }
 {
-    let (column, rest) = name_of(alloc, rest)?;
-    let rest = after(LexemeKind::Equal, rest)?;
-    let (value, rest) = expr_of(alloc, levels, rest)?;
+    let (name, rest) = name_of(alloc, rest)?;
+    let (target, rest) = followed(LexemeKind::Equal, name, rest)?;
+    let (column, value, rest) = paired(target, expr_of(alloc, levels, rest))?;
     Ok((Set { column, value }, rest))
 }
 
@@ -125,15 +130,32 @@ fn sets_of<'a>(
     ensures reads { Reads (λ x. listed_marks (map set_marks x.0)) (λ x. x.1) (listed (read_set levels)) rest.entry result }
     ensures given { IfOk result (λ x. IsListed IsGivenSet x.0) }
 {
-    let (first, mut rest) = set_of(alloc, levels, rest)?;
     let mut sets = Items::new(alloc);
-    sets.push(first)?;
-    while let Some(behind) = rest.word(LexemeKind::Comma) {
-        let (next, behind) = set_of(alloc, levels, behind)?;
-        sets.push(next)?;
-        rest = behind;
+    let mut left = rest;
+    loop {
+        let (part, behind) = set_of(alloc, levels, left)?;
+        sets.push(part)?;
+        let Some(next) = behind.word(LexemeKind::Comma) else {
+            return Ok((sets, behind));
+        };
+        left = next;
     }
-    Ok((sets, rest))
+}
+
+/// What an INSERT puts in: the list of columns, if it stands here, and the rows.
+fn inserted_of<'a>(
+    alloc: Global,
+    levels: u32,
+    rest: Rest<'a>,
+) -> Result<((Option<Items<Name>>, InsertSource), Rest<'a>), ParseError>
+    requires { IsKnown rest }
+    ensures reads { Reads (λ x. inserted_marks x.0) (λ x. x.1) (inserted levels) rest.entry result }
+    ensures columns { IfOk result (λ x. WhenThere (λ names. IsListed (λ n. ⊤) names) x.0.0) }
+    ensures source { IfOk result (λ x. IsGivenInsertSource x.0.1) }
+{
+    let (names, rest) = optional_names(alloc, rest)?;
+    let (columns, source, rest) = paired(names, insert_source_of(alloc, levels, rest))?;
+    Ok(((columns, source), rest))
 }
 
 /// INSERT.
@@ -148,9 +170,9 @@ pub fn insert_of<'a>(
 {
     let rest = after(LexemeKind::Insert, rest)?;
     let rest = after(LexemeKind::Into, rest)?;
-    let (table, rest) = table_of(alloc, rest)?;
-    let (columns, rest) = optional_names(alloc, rest)?;
-    let (source, rest) = insert_source_of(alloc, levels, rest)?;
+    let (name, rest) = table_of(alloc, rest)?;
+    let (table, rows, rest) = paired(name, inserted_of(alloc, levels, rest))?;
+    let (columns, source) = rows;
     Ok((
         Insert {
             table,
@@ -179,6 +201,23 @@ fn insert_source_of<'a>(
     Ok((InsertSource::Query(query), rest))
 }
 
+/// What an UPDATE changes, and where.
+fn changes_of<'a>(
+    alloc: Global,
+    levels: u32,
+    rest: Rest<'a>,
+) -> Result<((Items<Set>, Option<Predicate>), Rest<'a>), ParseError>
+    requires { IsKnown rest }
+    ensures reads { Reads (λ x. changes_marks x.0) (λ x. x.1) (changes levels) rest.entry result }
+    ensures sets { IfOk result (λ x. IsListed IsGivenSet x.0.0) }
+    ensures filter { IfOk result (λ x. WhenThere IsGivenPredicate x.0.1) }
+{
+    let rest = after(LexemeKind::Set, rest)?;
+    let (list, rest) = sets_of(alloc, levels, rest)?;
+    let (sets, filter, rest) = paired(list, filter_of(alloc, levels, rest))?;
+    Ok(((sets, filter), rest))
+}
+
 /// UPDATE.
 pub fn update_of<'a>(
     alloc: Global,
@@ -190,10 +229,9 @@ pub fn update_of<'a>(
     ensures given { IfOk result (λ x. IsGivenDml (dml.Update x.0)) }
 {
     let rest = after(LexemeKind::Update, rest)?;
-    let (table, rest) = table_of(alloc, rest)?;
-    let rest = after(LexemeKind::Set, rest)?;
-    let (sets, rest) = sets_of(alloc, levels, rest)?;
-    let (filter, rest) = filter_of(alloc, levels, rest)?;
+    let (name, rest) = table_of(alloc, rest)?;
+    let (table, changes, rest) = paired(name, changes_of(alloc, levels, rest))?;
+    let (sets, filter) = changes;
     Ok((
         Update {
             table,
@@ -216,7 +254,7 @@ pub fn delete_of<'a>(
 {
     let rest = after(LexemeKind::Delete, rest)?;
     let rest = after(LexemeKind::From, rest)?;
-    let (table, rest) = table_of(alloc, rest)?;
-    let (filter, rest) = filter_of(alloc, levels, rest)?;
+    let (name, rest) = table_of(alloc, rest)?;
+    let (table, filter, rest) = paired(name, filter_of(alloc, levels, rest))?;
     Ok((Delete { table, filter }, rest))
 }

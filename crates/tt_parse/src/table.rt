@@ -7,12 +7,13 @@ ghost use Rattle.tt_sql.specs.grammar.Combinators.{brackets, listed, maybe, name
 ghost use Rattle.tt_sql.specs.determined.Queries.{IsAloneTable};
 ghost use Rattle.tt_sql.specs.trees.Lists.{IsListed};
 ghost use Rattle.tt_sql.specs.machine.Factored.{read_create};
-ghost use Rattle.tt_sql.specs.determined.Statements.{IsGivenChange, IsGivenStatement};
+ghost use Rattle.tt_sql.specs.determined.Statements.{IsGivenChange, IsGivenSource, IsGivenStatement};
 ghost use Rattle.tt_sql.specs.declared.statement.Statement.TheVariants as statement;
 ghost use Rattle.tt_sql.specs.marks.Statements.{statement_marks};
 ghost use Rattle.tt_sql.specs.marks.Tables.{alter_marks, change_marks, definition_marks, kind_marks, options_marks, table_kind_marks};
 ghost use Rattle.tt_sql.specs.grammar.TokenKinds.{BY, CLOSE, CLUSTER, CLUSTERING, DROP, EQUAL, KEY, NAME, OPEN, RECLUSTER, RESUME, SHORT_NUMBER, SUSPEND, TRANSIENT, is_name, is_number};
 ghost use Rattle.tt_sql.specs.grammar.Written.{alter, change, column, create_front, drop_table, kind, name_and_number, only_number, options, retention, truncate, undrop};
+ghost use Rattle.tt_parse.specs.Created.{columns, columns_marks, origin, origin_marks};
 ghost use Rattle.tt_terminal.specs.Reading.{IsKnown, Passes, Reads};
 
 use sqlite_items::Items;
@@ -23,9 +24,10 @@ use tt_sql::{
     TableKind, TableName, TableOptions,
 };
 use tt_terminal::error::ParseError;
-use tt_terminal::fixed::{after, any_word, flag_of_both, past};
+use tt_terminal::fixed::{after, any_word, flag_of_both, past, stands};
 use tt_terminal::kind::LexemeKind;
 use tt_terminal::name::{name_of, number_of, optional_name, optional_number, table_of};
+use tt_terminal::pair::{followed, paired};
 use tt_terminal::rest::Rest;
 use tt_value::Kind;
 
@@ -115,15 +117,16 @@ fn definitions_of<'a>(
     ensures reads { Reads (λ x. listed_marks (map definition_marks x.0)) (λ x. x.1) (listed column) rest.entry result }
     ensures given { IfOk result (λ x. IsListed (λ d. ⊤) x.0) }
 {
-    let (first, mut rest) = definition_of(alloc, rest)?;
     let mut columns = Items::new(alloc);
-    columns.push(first)?;
-    while let Some(behind) = rest.word(LexemeKind::Comma) {
-        let (next, behind) = definition_of(alloc, behind)?;
-        columns.push(next)?;
-        rest = behind;
+    let mut left = rest;
+    loop {
+        let (part, behind) = definition_of(alloc, left)?;
+        columns.push(part)?;
+        let Some(next) = behind.word(LexemeKind::Comma) else {
+            return Ok((columns, behind));
+        };
+        left = next;
     }
-    Ok((columns, rest))
 }
 
 /// The options of a new table.
@@ -230,17 +233,45 @@ fn front_of<'a>(
     Ok(((replaces, kind, table), rest))
 }
 
+/// The columns of a new table, in brackets, and its options.
+fn columns_of<'a>(
+    alloc: Global,
+    rest: Rest<'a>,
+) -> Result<((Items<ColumnDefinition>, TableOptions), Rest<'a>), ParseError>
+    requires { IsKnown rest }
+    ensures reads { Reads (λ x. columns_marks x.0) (λ x. x.1) columns rest.entry result }
+    ensures given { IfOk result (λ x. IsListed (λ d. ⊤) x.0.0) }
+{
+    let rest = after(LexemeKind::Open, rest)?;
+    let (list, rest) = definitions_of(alloc, rest)?;
+    let (whole, rest) = followed(LexemeKind::Close, list, rest)?;
+    let (columns, options, rest) = paired(whole, options_of(alloc, rest))?;
+    Ok(((columns, options), rest))
+}
+
+/// The table of which a new one is a clone, and the moment.
+fn origin_of<'a>(alloc: Global, rest: Rest<'a>) -> Result<(Source, Rest<'a>), ParseError>
+    requires { IsKnown rest }
+    ensures reads { Reads (λ x. origin_marks x.0) (λ x. x.1) origin rest.entry result }
+    ensures given { IfOk result (λ x. IsGivenSource x.0) }
+{
+    let rest = after(LexemeKind::Clone, rest)?;
+    let (name, rest) = table_of(alloc, rest)?;
+    let (table, clause, rest) = paired(name, optional_clause(alloc, rest))?;
+    Ok((Source { table, clause }, rest))
+}
+
 /// CREATE TABLE, with columns or as a clone.
 pub fn create_of<'a>(alloc: Global, rest: Rest<'a>) -> Result<(Statement, Rest<'a>), ParseError>
     requires { IsKnown rest }
     ensures reads { Reads (λ x. statement_marks x.0) (λ x. x.1) read_create rest.entry result }
     ensures given { IfOk result (λ x. IsGivenStatement x.0) }
 {
-    let ((replaces, kind, table), rest) = front_of(alloc, rest)?;
-    if let Some(rest) = rest.word(LexemeKind::Open) {
-        let (columns, rest) = definitions_of(alloc, rest)?;
-        let rest = after(LexemeKind::Close, rest)?;
-        let (options, rest) = options_of(alloc, rest)?;
+    let (front, rest) = front_of(alloc, rest)?;
+    if stands(LexemeKind::Open, rest) {
+        let (head, parts, rest) = paired(front, columns_of(alloc, rest))?;
+        let (replaces, kind, table) = head;
+        let (columns, options) = parts;
         let created = CreatedTable {
             replaces,
             kind,
@@ -250,13 +281,8 @@ pub fn create_of<'a>(alloc: Global, rest: Rest<'a>) -> Result<(Statement, Rest<'
         };
         return Ok((Statement::Create(created), rest));
     }
-    let rest = after(LexemeKind::Clone, rest)?;
-    let (origin, rest) = table_of(alloc, rest)?;
-    let (clause, rest) = optional_clause(alloc, rest)?;
-    let source = Source {
-        table: origin,
-        clause,
-    };
+    let (beginning, source, rest) = paired(front, origin_of(alloc, rest))?;
+    let (replaces, kind, table) = beginning;
     let cloned = ClonedTable {
         replaces,
         kind,

@@ -4,12 +4,12 @@ use Rattle.tt_sql.specs.grammar.Grammar.{Mark, Way, Gram, Many}
 use Rattle.tt_sql.specs.grammar.Combinators.{one, listed, ◌▸◌}
 use Rattle.tt_sql.specs.grammar.TokenKinds.{COMMA}
 use Rattle.tt_sql.specs.marks.Expressions.{repeated, listed_marks}
-use Rattle.tt_sql.specs.trees.Lists.{IsListed}
+use Rattle.tt_sql.specs.trees.Lists.{Each, IsListed}
 use Rattle.tt_sql.specs.marks.Queries.{maybe_listed}
 use Rattle.tt_terminal.specs.declared.rest.Rest.{Rest}
 use Rattle.tt_terminal.specs.Reading.{Passes, Fails, IsKnown, IsWord, first_kind}
 use Rattle.tt_phrase.proofs.GivenTrees.{each_push}
-use Rattle.tt_terminal.proofs.Steps.{passes_both, passes_word, passes_more, passes_enough, stops_second, stops_word, stops_more, stops_later, word_kind_is}
+use Rattle.tt_terminal.proofs.Steps.{passes_both, passes_word, passes_more, passes_enough, stops_first, stops_second, stops_word, stops_more, stops_later, word_kind_is}
 
 -- what further parts note
 abbrev pub more_marks : List (List Mark) → List Mark
@@ -62,24 +62,36 @@ list_goes_on {g = g} {r = r} {ms = ms} {s = s} {t = t} {n = n} {u = u} l w p =
       halts = λ at a. l.halts at (stops_later (word_kind_is w) refl refl q a);
     }
 
--- the same with one more element of a list
-pub list_more : {T : Type 0} {g : Gram} {r : Rest} {s t u : Rest} (f : T → List Mark) (xs : List T) (x : T) → Listing g r (map f xs) s → IsWord COMMA s t → Passes [] g t (f x) u → Listing g r (map f (xs ++ x ∷ [])) u
-list_more {g = g} {r = r} {s = s} {t = t} {u = u} f xs x l w p = subst (λ (ms : List (List Mark)). Listing g r ms u) (sym (map_last f xs x)) (list_goes_on l w p)
+pub list_fails : {g : Gram} {r : Rest} {ms : List (List Mark)} {s t : Rest} {at : ℕ} → Listing g r ms s → IsWord COMMA s t → Fails [] g t at → Fails [] (listed g) r at
+list_fails {g = g} {r = r} {ms = ms} {s = s} {t = t} {at = at} l w f = l.halts at (stops_more (word_kind_is w) refl refl (stops_word w f))
+
+-- Behind a comma, or in front of all: the next part is still to be read.
+pub record Pending (g : Gram) (r : Rest) (ms : List (List Mark)) (rest : Rest) : Type 0 where
+  pub known : IsKnown rest
+  pub goes : (n : List Mark) (u : Rest) → Passes [] g rest n u → Listing g r (ms ++ n ∷ []) u
+  pub halts : (at : ℕ) → Fails [] g rest at → Fails [] (listed g) r at
+
+pub pending_begins : {g : Gram} {r : Rest} → IsKnown r → Pending g r [] r
+pending_begins known = record { known = known; goes = λ n u p. list_begins p; halts = λ at f. stops_first f }
+
+pub pending_more : {g : Gram} {r : Rest} {ms : List (List Mark)} {s t : Rest} → Listing g r ms s → IsWord COMMA s t → Pending g r ms t
+pending_more l w = record { known = w.takes.known; goes = λ n u p. list_goes_on l w p; halts = λ at f. list_fails l w f }
+
+-- the next part is read
+pub list_next : {T : Type 0} {g : Gram} {r : Rest} {s u : Rest} (f : T → List Mark) (xs : List T) (x : T) → Pending g r (map f xs) s → Passes [] g s (f x) u → Listing g r (map f (xs ++ x ∷ [])) u
+list_next {g = g} {r = r} {u = u} f xs x l p = subst (λ (ms : List (List Mark)). Listing g r ms u) (sym (map_last f xs x)) (l.goes (f x) u p)
 
 pub list_ends : {g : Gram} {r : Rest} {ms : List (List Mark)} {s : Rest} → Listing g r ms s → (first_kind s == COMMA) ≡ false → Passes [] (listed g) r (listed_marks ms) s
 list_ends {g = g} {r = r} {ms = ms} {s = s} l e =
     subst (λ (x : List Mark). Passes [] (listed g) r x s) (ap (λ (x : List Mark). l.first ++ x) (more_end l.others) ∙ ap listed_marks (sym l.parts))
     (l.goes (Way 0 ∷ []) s (passes_enough l.known (rw e refl)))
 
-pub list_fails : {g : Gram} {r : Rest} {ms : List (List Mark)} {s t : Rest} {at : ℕ} → Listing g r ms s → IsWord COMMA s t → Fails [] g t at → Fails [] (listed g) r at
-list_fails {g = g} {r = r} {ms = ms} {s = s} {t = t} {at = at} l w f = l.halts at (stops_more (word_kind_is w) refl refl (stops_word w f))
-
 -- a list that may be left out, and is not
 pub filled_marks : {T : Type 0} (f : T → List Mark) (xs : List T) → 1 ≤ length xs → maybe_listed (map f xs) ≡ listed_marks (map f xs) ++ Way 1 ∷ []
 filled_marks f [] p = absurd (omega arith)
 filled_marks f (x ∷ xs) p = refl
 
--- one more of these
-pub listed_push : {A : Type 0} (P : A → Type 0) (xs : List A) (x : A) → IsListed P xs → P x → IsListed P (xs ++ x ∷ [])
-listed_push P [] x listed is = absurd listed
-listed_push P (y ∷ xs) x listed is = (listed.0, each_push P xs (xs ++ x ∷ []) x refl listed.1 is)
+-- all of these, and one more
+pub listed_end : {A : Type 0} (P : A → Type 0) (xs : List A) (x : A) → Each P xs → P x → IsListed P (xs ++ x ∷ [])
+listed_end P [] x each is = (is, tt)
+listed_end P (y ∷ xs) x each is = (each.0, each_push P xs (xs ++ x ∷ []) x refl each.1 is)

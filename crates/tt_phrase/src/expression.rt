@@ -100,7 +100,13 @@ pub fn expr_of<'a>(
 {
     let (first, behind) = term_of(alloc, levels, rest)?;
     let (head, others, end) = paired(first, addends_of(alloc, levels, behind))?;
-    Ok((Expr { first: head, others }, end))
+    Ok((
+        Expr {
+            first: head,
+            others,
+        },
+        end,
+    ))
 }
 
 /// Further terms, with their signs.
@@ -132,7 +138,13 @@ fn term_of<'a>(alloc: Global, levels: u32, rest: Rest<'a>) -> Result<(Term, Rest
 {
     let (first, behind) = factor_of(alloc, levels, rest)?;
     let (head, others, end) = paired(first, factors_of(alloc, levels, behind))?;
-    Ok((Term { first: head, others }, end))
+    Ok((
+        Term {
+            first: head,
+            others,
+        },
+        end,
+    ))
 }
 
 /// Further factors.

@@ -108,15 +108,16 @@ fn items_of<'a>(
     ensures reads { Reads (λ x. listed_marks (map item_marks x.0)) (λ x. x.1) (listed (read_item nowhere levels)) rest.entry result }
     ensures given { IfOk result (λ x. IsListed IsGivenItem x.0) }
 {
-    let (first, mut rest) = item_of(alloc, levels, rest)?;
     let mut items = Items::new(alloc);
-    items.push(first)?;
-    while let Some(behind) = rest.word(LexemeKind::Comma) {
-        let (next, behind) = item_of(alloc, levels, behind)?;
-        items.push(next)?;
-        rest = behind;
+    let mut left = rest;
+    loop {
+        let (part, behind) = item_of(alloc, levels, left)?;
+        items.push(part)?;
+        let Some(next) = behind.word(LexemeKind::Comma) else {
+            return Ok((items, behind));
+        };
+        left = next;
     }
-    Ok((items, rest))
 }
 
 /// A star, or the items of a query.

@@ -25,13 +25,14 @@ pub fn literals_of<'a>(
     ensures reads { Reads (λ x. listed_marks (map literal_marks x.0)) (λ x. x.1) (listed literal_part) rest.entry result }
     ensures given { IfOk result (λ x. IsListed (λ l. IsPrintableValue l.value) x.0) }
 {
-    let (first, mut rest) = literal_of(alloc, rest)?;
     let mut literals = Items::new(alloc);
-    literals.push(first)?;
-    while let Some(behind) = rest.word(LexemeKind::Comma) {
-        let (next, behind) = literal_of(alloc, behind)?;
-        literals.push(next)?;
-        rest = behind;
+    let mut left = rest;
+    loop {
+        let (part, behind) = literal_of(alloc, left)?;
+        literals.push(part)?;
+        let Some(next) = behind.word(LexemeKind::Comma) else {
+            return Ok((literals, behind));
+        };
+        left = next;
     }
-    Ok((literals, rest))
 }

@@ -33,7 +33,13 @@ pub fn predicate_of<'a>(
 {
     let (first, behind) = conjunction_of(alloc, levels, rest)?;
     let (head, others, end) = paired(first, conjunctions_of(alloc, levels, behind))?;
-    Ok((Predicate { first: head, others }, end))
+    Ok((
+        Predicate {
+            first: head,
+            others,
+        },
+        end,
+    ))
 }
 
 /// Further conjunctions.
@@ -69,7 +75,13 @@ fn conjunction_of<'a>(
 {
     let (first, behind) = unit_of(alloc, levels, rest)?;
     let (head, others, end) = paired(first, units_of(alloc, levels, behind))?;
-    Ok((Conjunction { first: head, others }, end))
+    Ok((
+        Conjunction {
+            first: head,
+            others,
+        },
+        end,
+    ))
 }
 
 /// Further units.

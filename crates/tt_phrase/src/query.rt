@@ -91,15 +91,16 @@ fn keys_of<'a>(alloc: Global, rest: Rest<'a>) -> Result<(Items<Key>, Rest<'a>), 
     ensures filled { IfOk result (λ x. 1 ≤ length x.0) }
     ensures given { IfOk result (λ x. Each IsGivenKey x.0) }
 {
-    let (first, mut rest) = key_of(alloc, rest)?;
     let mut keys = Items::new(alloc);
-    keys.push(first)?;
-    while let Some(behind) = rest.word(LexemeKind::Comma) {
-        let (next, behind) = key_of(alloc, behind)?;
-        keys.push(next)?;
-        rest = behind;
+    let mut left = rest;
+    loop {
+        let (part, behind) = key_of(alloc, left)?;
+        keys.push(part)?;
+        let Some(next) = behind.word(LexemeKind::Comma) else {
+            return Ok((keys, behind));
+        };
+        left = next;
     }
-    Ok((keys, rest))
 }
 
 /// The columns of GROUP BY.
@@ -112,15 +113,16 @@ fn columns_of<'a>(
     ensures filled { IfOk result (λ x. 1 ≤ length x.0) }
     ensures given { IfOk result (λ x. Each IsAlone x.0) }
 {
-    let (first, mut rest) = column_of(alloc, rest)?;
     let mut columns = Items::new(alloc);
-    columns.push(first)?;
-    while let Some(behind) = rest.word(LexemeKind::Comma) {
-        let (next, behind) = column_of(alloc, behind)?;
-        columns.push(next)?;
-        rest = behind;
+    let mut left = rest;
+    loop {
+        let (part, behind) = column_of(alloc, left)?;
+        columns.push(part)?;
+        let Some(next) = behind.word(LexemeKind::Comma) else {
+            return Ok((columns, behind));
+        };
+        left = next;
     }
-    Ok((columns, rest))
 }
 
 /// GROUP BY, if it stands here.

@@ -1,5 +1,9 @@
-use Rattle.tt_terminal.proofs.Steps.{passes_both, stops_first, stops_second}
 use Rattle.tt_terminal.proofs.Exits.{exits, within}
+use Rattle.tt_terminal.proofs.Pairs.{pair_first, pair_holds, pair_reads}
+use Rattle.tt_terminal.proofs.Steps.{passes_both, stops_first, stops_second}
+use Rattle.tt_sql.specs.determined.Expressions.{IsGivenPredicate}
+use Rattle.tt_sql.specs.marks.Expressions.{maybe_marks, predicate_marks}
+use Rattle.tt_sql.specs.trees.Lists.{WhenThere}
 use Rattle.tt_parse.proofs.change.delete_of.Goals as goal
 
 pub returns-in_err-rest-clause-reads : goal.returns-in_err-rest-clause-reads
@@ -8,11 +12,17 @@ returns-in_err-rest-clause-reads c = exits _ _ _ _ _ _ c.from_residual.result c.
 pub returns-in_err-rest-2-clause-reads : goal.returns-in_err-rest-2-clause-reads
 returns-in_err-rest-2-clause-reads c = exits _ _ _ _ _ _ c.from_residual-in_err-rest-2.result c.from_residual-in_err-rest-2.ensures.1 (within (λ at f. stops_second c.in_ok-rest.ensures (stops_first f)) _ c.in_err-rest-2.ensures)
 
-pub returns-in_err-table-clause-reads : goal.returns-in_err-table-clause-reads
-returns-in_err-table-clause-reads c = exits _ _ _ _ _ _ c.from_residual-in_err-table.result c.from_residual-in_err-table.ensures.1 (within (λ at f. stops_second c.in_ok-rest.ensures (stops_second c.in_ok-rest-2.ensures (stops_first f))) _ c.in_err-table.ensures.reads)
+pub returns-in_err-name-clause-reads : goal.returns-in_err-name-clause-reads
+returns-in_err-name-clause-reads c = exits _ _ _ _ _ _ c.from_residual-in_err-name.result c.from_residual-in_err-name.ensures.1 (within (λ at f. stops_second c.in_ok-rest.ensures (stops_second c.in_ok-rest-2.ensures (stops_first f))) _ c.in_err-name.ensures.reads)
 
-pub returns-in_err-filter-clause-reads : goal.returns-in_err-filter-clause-reads
-returns-in_err-filter-clause-reads c = exits _ _ _ _ _ _ c.from_residual-in_err-filter.result c.from_residual-in_err-filter.ensures.1 (within (λ at f. stops_second c.in_ok-rest.ensures (stops_second c.in_ok-rest-2.ensures (stops_second c.in_ok-table.ensures.reads f))) _ c.in_err-filter.ensures.reads)
+pub returns-in_err-table-clause-reads : goal.returns-in_err-table-clause-reads
+returns-in_err-table-clause-reads c = exits _ _ _ _ _ _ c.from_residual-in_err-table.result c.from_residual-in_err-table.ensures.1 (within (λ at f. stops_second c.in_ok-rest.ensures (stops_second c.in_ok-rest-2.ensures (stops_second c.in_ok-name.ensures.reads f))) _ (pair_reads _ _ _ (λ x. maybe_marks predicate_marks x.0) _ _ c.in_err-table.ensures c.filter_of.ensures.reads))
 
 pub returns-clause-reads : goal.returns-clause-reads
-returns-clause-reads c = passes_both c.in_ok-rest.ensures (passes_both c.in_ok-rest-2.ensures (passes_both c.in_ok-table.ensures.reads c.in_ok-filter.ensures.reads))
+returns-clause-reads c = rw (pair_first _ _ _ c.in_ok-table.ensures) (passes_both c.in_ok-rest.ensures (passes_both c.in_ok-rest-2.ensures (passes_both c.in_ok-name.ensures.reads (pair_reads _ _ _ (λ x. maybe_marks predicate_marks x.0) _ _ c.in_ok-table.ensures c.filter_of.ensures.reads))))
+
+pub returns-clause-given : goal.returns-clause-given
+returns-clause-given c = rw (pair_first _ _ _ c.in_ok-table.ensures) (
+  c.in_ok-name.ensures.given,
+  pair_holds _ _ _ (λ x. WhenThere IsGivenPredicate x.0) c.in_ok-table.ensures c.filter_of.ensures.given,
+)

@@ -1,21 +1,27 @@
-use Rattle.tt_terminal.proofs.Steps.{passes_both, stops_first, stops_second}
 use Rattle.tt_terminal.proofs.Exits.{exits, within}
+use Rattle.tt_terminal.proofs.Pairs.{pair_first, pair_holds, pair_reads}
+use Rattle.tt_terminal.proofs.Steps.{passes_both, stops_first, stops_second}
+use Rattle.tt_sql.specs.determined.Expressions.{IsGivenPredicate}
+use Rattle.tt_sql.specs.trees.Lists.{IsListed, WhenThere}
+use Rattle.tt_sql.specs.determined.Statements.{IsGivenSet}
+use Rattle.tt_parse.specs.Changes.{changes_marks}
 use Rattle.tt_parse.proofs.change.update_of.Goals as goal
 
 pub returns-in_err-rest-clause-reads : goal.returns-in_err-rest-clause-reads
 returns-in_err-rest-clause-reads c = exits _ _ _ _ _ _ c.from_residual.result c.from_residual.ensures.1 (within (λ at f. stops_first f) _ c.in_err-rest.ensures)
 
+pub returns-in_err-name-clause-reads : goal.returns-in_err-name-clause-reads
+returns-in_err-name-clause-reads c = exits _ _ _ _ _ _ c.from_residual-in_err-name.result c.from_residual-in_err-name.ensures.1 (within (λ at f. stops_second c.in_ok-rest.ensures (stops_first f)) _ c.in_err-name.ensures.reads)
+
 pub returns-in_err-table-clause-reads : goal.returns-in_err-table-clause-reads
-returns-in_err-table-clause-reads c = exits _ _ _ _ _ _ c.from_residual-in_err-table.result c.from_residual-in_err-table.ensures.1 (within (λ at f. stops_second c.in_ok-rest.ensures (stops_first f)) _ c.in_err-table.ensures.reads)
-
-pub returns-in_err-rest-2-clause-reads : goal.returns-in_err-rest-2-clause-reads
-returns-in_err-rest-2-clause-reads c = exits _ _ _ _ _ _ c.from_residual-in_err-rest-2.result c.from_residual-in_err-rest-2.ensures.1 (within (λ at f. stops_second c.in_ok-rest.ensures (stops_second c.in_ok-table.ensures.reads (stops_first f))) _ c.in_err-rest-2.ensures)
-
-pub returns-in_err-sets-clause-reads : goal.returns-in_err-sets-clause-reads
-returns-in_err-sets-clause-reads c = exits _ _ _ _ _ _ c.from_residual-in_err-sets.result c.from_residual-in_err-sets.ensures.1 (within (λ at f. stops_second c.in_ok-rest.ensures (stops_second c.in_ok-table.ensures.reads (stops_second c.in_ok-rest-2.ensures (stops_first f)))) _ c.in_err-sets.ensures.reads)
-
-pub returns-in_err-filter-clause-reads : goal.returns-in_err-filter-clause-reads
-returns-in_err-filter-clause-reads c = exits _ _ _ _ _ _ c.from_residual-in_err-filter.result c.from_residual-in_err-filter.ensures.1 (within (λ at f. stops_second c.in_ok-rest.ensures (stops_second c.in_ok-table.ensures.reads (stops_second c.in_ok-rest-2.ensures (stops_second c.in_ok-sets.ensures.reads f)))) _ c.in_err-filter.ensures.reads)
+returns-in_err-table-clause-reads c = exits _ _ _ _ _ _ c.from_residual-in_err-table.result c.from_residual-in_err-table.ensures.1 (within (λ at f. stops_second c.in_ok-rest.ensures (stops_second c.in_ok-name.ensures.reads f)) _ (pair_reads _ _ _ (λ x. changes_marks x.0) _ _ c.in_err-table.ensures c.changes_of.ensures.reads))
 
 pub returns-clause-reads : goal.returns-clause-reads
-returns-clause-reads c = passes_both c.in_ok-rest.ensures (passes_both c.in_ok-table.ensures.reads (passes_both c.in_ok-rest-2.ensures (passes_both c.in_ok-sets.ensures.reads c.in_ok-filter.ensures.reads)))
+returns-clause-reads c = rw (pair_first _ _ _ c.in_ok-table.ensures) (passes_both c.in_ok-rest.ensures (passes_both c.in_ok-name.ensures.reads (pair_reads _ _ _ (λ x. changes_marks x.0) _ _ c.in_ok-table.ensures c.changes_of.ensures.reads)))
+
+pub returns-clause-given : goal.returns-clause-given
+returns-clause-given c = rw (pair_first _ _ _ c.in_ok-table.ensures) (
+  c.in_ok-name.ensures.given,
+  pair_holds _ _ _ (λ x. IsListed IsGivenSet x.0.0) c.in_ok-table.ensures c.changes_of.ensures.sets,
+  pair_holds _ _ _ (λ x. WhenThere IsGivenPredicate x.0.1) c.in_ok-table.ensures c.changes_of.ensures.filter,
+)

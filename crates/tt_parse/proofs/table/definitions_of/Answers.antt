@@ -1,32 +1,32 @@
+use Rattle.std.proofs.Common.{arith, refl}
 use Rattle.std.specs.Prelude.{⊤}
-use Rattle.tt_terminal.proofs.Steps.{stops_first}
-use Rattle.tt_terminal.proofs.Exits.{exits, within}
-use Rattle.std.proofs.Common.{◌∙◌, arith, length-append}
 use Rattle.tt_sql.specs.marks.Tables.{definition_marks}
-use Rattle.tt_phrase.proofs.Lists.{list_begins, list_more, list_ends, list_fails, listed_push}
+use Rattle.tt_terminal.proofs.Exits.{exits, within}
+use Rattle.tt_terminal.proofs.Steps.{word_shorter}
+use Rattle.tt_phrase.proofs.GivenTrees.{each_push}
+use Rattle.tt_phrase.proofs.Lists.{list_ends, list_next, listed_end, pending_begins, pending_more}
 use Rattle.tt_parse.proofs.table.definitions_of.Goals as goal
 
-pub returns-in_err-first-clause-reads : goal.returns-in_err-first-clause-reads
-returns-in_err-first-clause-reads c = exits _ _ _ _ _ _ c.from_residual.result c.from_residual.ensures.1 (within (λ at f. stops_first f) _ c.in_err-first.ensures)
-
-pub loop-behind-init : goal.loop-behind-init
-loop-behind-init c = record {
-  same = c.in_ok-first.ensures.same;
-  filled = rw (c.in_ok-push.ensures.ok, c.new-columns.ensures) (omega arith);
-  given = rw (c.in_ok-push.ensures.ok, c.new-columns.ensures) (tt, tt);
-  listing = rw (c.in_ok-push.ensures.ok, c.new-columns.ensures) (list_begins c.in_ok-first.ensures);
+pub loop-columns-init : goal.loop-columns-init
+loop-columns-init c = record {
+  given = rw c.new-columns.ensures tt;
+  pending = rw c.new-columns.ensures (pending_begins c.requires);
 }
 
-pub returns-in_err-next-clause-reads : goal.returns-in_err-next-clause-reads
-returns-in_err-next-clause-reads c = exits _ _ _ _ _ _ c.from_residual-in_err-next.result c.from_residual-in_err-next.ensures.1 (within (λ at f. list_fails c.loop-behind.invariant.listing c.in-Some.ensures f) _ c.in_err-next.ensures)
+pub returns-in_err-part-clause-reads : goal.returns-in_err-part-clause-reads
+returns-in_err-part-clause-reads c = exits _ _ _ _ _ _ c.from_residual.result c.from_residual.ensures.1 (within (λ at f. c.loop-columns.invariant.pending.halts at f) _ c.in_err-part.ensures)
 
-pub loop-behind-preserved : goal.loop-behind-preserved
-loop-behind-preserved c = record {
-  same = c.in_ok-next.ensures.same ∙ c.in-Some.ensures.takes.same ∙ c.loop-behind.invariant.same;
-  filled = rw c.in_ok-push-2.ensures.ok (rw length-append (omega arith));
-  given = rw c.in_ok-push-2.ensures.ok (listed_push (λ x. ⊤) _ _ c.loop-behind.invariant.given tt);
-  listing = rw c.in_ok-push-2.ensures.ok (list_more definition_marks _ _ c.loop-behind.invariant.listing c.in-Some.ensures c.in_ok-next.ensures);
+pub loop-columns-preserved : goal.loop-columns-preserved
+loop-columns-preserved c = record {
+  given = rw c.in_ok-push.ensures.ok (each_push (λ x. ⊤) _ _ _ refl c.loop-columns.invariant.given tt);
+  pending = rw c.in_ok-push.ensures.ok (pending_more (list_next definition_marks _ _ c.loop-columns.invariant.pending c.in_ok-part.ensures) c.in-Some.ensures);
 }
 
-pub returns-clause-reads : goal.returns-clause-reads
-returns-clause-reads c = list_ends c.loop-behind.invariant.listing c.in_default.ensures
+pub loop-columns-smaller : goal.loop-columns-smaller
+loop-columns-smaller c = let a = c.in_ok-part.ensures.shorter in let b = word_shorter c.in-Some.ensures in omega (arith, a, b)
+
+pub returns-in_default-clause-reads : goal.returns-in_default-clause-reads
+returns-in_default-clause-reads c = rw c.in_ok-push.ensures.ok (list_ends (list_next definition_marks _ _ c.loop-columns.invariant.pending c.in_ok-part.ensures) c.in_default.ensures)
+
+pub returns-in_default-clause-given : goal.returns-in_default-clause-given
+returns-in_default-clause-given c = rw c.in_ok-push.ensures.ok (listed_end (λ x. ⊤) _ _ c.loop-columns.invariant.given tt)

@@ -1,33 +1,35 @@
-use Rattle.tt_terminal.proofs.Steps.{stops_first}
-use Rattle.tt_terminal.proofs.Exits.{exits, within}
-use Rattle.std.proofs.Common.{◌∙◌, arith, length-append, refl}
-use Rattle.tt_sql.specs.marks.Expressions.{column_marks}
+use Rattle.std.proofs.Common.{arith, length-append, refl}
 use Rattle.tt_sql.specs.determined.Queries.{IsAlone}
+use Rattle.tt_sql.specs.marks.Expressions.{column_marks}
+use Rattle.tt_terminal.proofs.Exits.{exits, within}
+use Rattle.tt_terminal.proofs.Steps.{word_shorter}
 use Rattle.tt_phrase.proofs.GivenTrees.{each_push}
-use Rattle.tt_phrase.proofs.Lists.{list_begins, list_more, list_ends, list_fails}
+use Rattle.tt_phrase.proofs.Lists.{list_ends, list_next, listed_end, pending_begins, pending_more}
 use Rattle.tt_phrase.proofs.query.columns_of.Goals as goal
 
-pub returns-in_err-first-clause-reads : goal.returns-in_err-first-clause-reads
-returns-in_err-first-clause-reads c = exits _ _ _ _ _ _ c.from_residual.result c.from_residual.ensures.1 (within (λ at f. stops_first f) _ c.in_err-first.ensures.reads)
-
-pub loop-behind-init : goal.loop-behind-init
-loop-behind-init c = record {
-  same = c.in_ok-first.ensures.reads.same;
-  filled = rw (c.in_ok-push.ensures.ok, c.new-columns.ensures) (omega arith);
-  given = rw (c.in_ok-push.ensures.ok, c.new-columns.ensures) (c.in_ok-first.ensures.given, tt);
-  listing = rw (c.in_ok-push.ensures.ok, c.new-columns.ensures) (list_begins c.in_ok-first.ensures.reads);
+pub loop-columns-init : goal.loop-columns-init
+loop-columns-init c = record {
+  given = rw c.new-columns.ensures tt;
+  pending = rw c.new-columns.ensures (pending_begins c.requires);
 }
 
-pub returns-in_err-next-clause-reads : goal.returns-in_err-next-clause-reads
-returns-in_err-next-clause-reads c = exits _ _ _ _ _ _ c.from_residual-in_err-next.result c.from_residual-in_err-next.ensures.1 (within (λ at f. list_fails c.loop-behind.invariant.listing c.in-Some.ensures f) _ c.in_err-next.ensures.reads)
+pub returns-in_err-part-clause-reads : goal.returns-in_err-part-clause-reads
+returns-in_err-part-clause-reads c = exits _ _ _ _ _ _ c.from_residual.result c.from_residual.ensures.1 (within (λ at f. c.loop-columns.invariant.pending.halts at f) _ c.in_err-part.ensures.reads)
 
-pub loop-behind-preserved : goal.loop-behind-preserved
-loop-behind-preserved c = record {
-  same = c.in_ok-next.ensures.reads.same ∙ c.in-Some.ensures.takes.same ∙ c.loop-behind.invariant.same;
-  filled = rw c.in_ok-push-2.ensures.ok (rw length-append (omega arith));
-  given = rw c.in_ok-push-2.ensures.ok (each_push IsAlone _ _ _ refl c.loop-behind.invariant.given c.in_ok-next.ensures.given);
-  listing = rw c.in_ok-push-2.ensures.ok (list_more column_marks _ _ c.loop-behind.invariant.listing c.in-Some.ensures c.in_ok-next.ensures.reads);
+pub loop-columns-preserved : goal.loop-columns-preserved
+loop-columns-preserved c = record {
+  given = rw c.in_ok-push.ensures.ok (each_push IsAlone _ _ _ refl c.loop-columns.invariant.given c.in_ok-part.ensures.given);
+  pending = rw c.in_ok-push.ensures.ok (pending_more (list_next column_marks _ _ c.loop-columns.invariant.pending c.in_ok-part.ensures.reads) c.in-Some.ensures);
 }
 
-pub returns-clause-reads : goal.returns-clause-reads
-returns-clause-reads c = list_ends c.loop-behind.invariant.listing c.in_default.ensures
+pub loop-columns-smaller : goal.loop-columns-smaller
+loop-columns-smaller c = let a = c.in_ok-part.ensures.reads.shorter in let b = word_shorter c.in-Some.ensures in omega (arith, a, b)
+
+pub returns-in_default-clause-reads : goal.returns-in_default-clause-reads
+returns-in_default-clause-reads c = rw c.in_ok-push.ensures.ok (list_ends (list_next column_marks _ _ c.loop-columns.invariant.pending c.in_ok-part.ensures.reads) c.in_default.ensures)
+
+pub returns-in_default-clause-given : goal.returns-in_default-clause-given
+returns-in_default-clause-given c = rw c.in_ok-push.ensures.ok (each_push IsAlone _ _ _ refl c.loop-columns.invariant.given c.in_ok-part.ensures.given)
+
+pub returns-in_default-clause-filled : goal.returns-in_default-clause-filled
+returns-in_default-clause-filled c = rw c.in_ok-push.ensures.ok (rw length-append (omega arith))
