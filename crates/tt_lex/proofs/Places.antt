@@ -1,15 +1,11 @@
 -- Tokens stand in order, and each has the bytes of a piece.
-use Rattle.std.proofs.Common.{◌≡◌, ℕ, ◌+◌, ◌-◌, ◌<◌, ◌≤◌, All, List, [], ◌∷◌, ◌++◌, length, take, drop, Option, Some, None, refl, sym, ap, subst, ◌∙◌, append_assoc, add-zero, zero-add, arith}
+use Rattle.std.proofs.Common.{◌≡◌, ℕ, ◌+◌, ◌-◌, ◌<◌, ◌≤◌, All, List, [], ◌∷◌, ◌++◌, length, take, drop, Option, Some, None, refl, sym, ap, subst, ◌∙◌, append_assoc, arith}
 use Rattle.std.specs.List.{AllByRecursion}
 use Rattle.std.proofs.lemmas.List.{append-nil, length-append, take_at, drop_at}
 use Rattle.std.proofs.lemmas.List.Elements.{All-from_recursion}
-use Rattle.std.proofs.lemmas.List.Concat.{flat_map-append}
 use Rattle.tt_lex.specs.declared.Token.{Token}
 use Rattle.tt_lex.specs.declared.TokenKind.{TokenKind}
-use Rattle.tt_lex.specs.declared.LexFault.{LexFault}
-use Rattle.tt_lex.specs.declared.scan.Front.{Front}
-use Rattle.tt_lex.specs.Lexis.{Piece, spelling, spelled, IsPiece, EndsBefore, ArePieces, kind_of, with_token, tokens_from, HasTokens, HasFault, IsFault, AreInOrder, IsSpelled}
-use Rattle.tt_lex.specs.Scanning.{Takes}
+use Rattle.tt_lex.specs.Lexis.{Piece, spelling, spelled, IsPiece, ArePieces, kind_of, with_token, tokens_from, HasTokens, AreInOrder, IsSpelled}
 use Rattle.tt_lex.specs.answer.Fronts.{spelling_some}
 
 -- ---- order

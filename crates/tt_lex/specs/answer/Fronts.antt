@@ -1,10 +1,9 @@
 -- What stands at the front of a text, from what the parts of the lexer find there.
-use Rattle.std.proofs.Common.{◌≡◌, ◌≢◌, ℕ, ◌+◌, ◌<◌, ◌≤◌, Bool, true, false, cond, ◌&&◌, ◌==◌, List, [], ◌∷◌, ◌++◌, length, get_or, take, drop, Some, None, refl, sym, ap, subst, ◌∙◌, append_assoc, arith, inl, inr, codes}
+use Rattle.std.proofs.Common.{◌≡◌, ℕ, ◌+◌, ◌<◌, ◌≤◌, Bool, true, false, ◌&&◌, ◌==◌, List, [], ◌∷◌, ◌++◌, length, get_or, take, Some, None, refl, sym, ap, subst, ◌∙◌, append_assoc, arith, inl, inr, codes}
 use Rattle.std.specs.List.{list_all, prefix_len}
-use Rattle.std.proofs.lemmas.List.Concat.{flat_map-append}
 use Rattle.std.specs.Char.{is_ascii_digit}
-use Rattle.std.proofs.lemmas.Bool.{cases_Bool, and_from, and_right, or_from, eqb-true, ne_eqb, cases_lt}
-use Rattle.std.proofs.lemmas.List.{length-append, length-take, get_or_at, take_at, get_or-take, get_or_past, append-nil, nil_from_length, drop_more, take-append-drop}
+use Rattle.std.proofs.lemmas.Bool.{cases_Bool, and_from, and_right, or_from, eqb-true}
+use Rattle.std.proofs.lemmas.List.{length-append, get_or_at, take_at, append-nil, nil_from_length}
 use Rattle.tt_lex.specs.declared.scan.Inside.{Inside}
 use Rattle.tt_lex.specs.declared.TokenKind.TheVariants as kinds
 use Rattle.tt_lex.specs.Lexis.{Piece, Blank, LineComment, BlockComment, Word, Number, Quoted, Sign, is_white, is_word_start, is_word_part, is_line_byte, is_text_byte, is_sign, is_quote, doubled, spelling, NotClosed, StopsAt, IsPiece, EndsBefore, RefusesInText, IsQuotedAt}

@@ -1,14 +1,12 @@
 -- Pieces are divided off the front of a text one after another.
-use Rattle.std.proofs.Common.{◌≡◌, ℕ, ◌+◌, ◌-◌, ◌<◌, ◌≤◌, All, List, [], ◌∷◌, ◌++◌, length, take, drop, Option, Some, None, refl, sym, ap, subst, ◌∙◌, append_assoc, add-zero, zero-add, arith}
-use Rattle.std.specs.List.{AllByRecursion}
-use Rattle.std.proofs.lemmas.List.{append-nil, length-append, take_at, drop_at}
-use Rattle.std.proofs.lemmas.List.Elements.{All-from_recursion}
+use Rattle.std.proofs.Common.{◌≡◌, ℕ, ◌+◌, ◌<◌, List, [], ◌∷◌, ◌++◌, length, drop, Option, Some, None, refl, sym, ap, subst, ◌∙◌, append_assoc, add-zero, zero-add, arith}
+use Rattle.std.proofs.lemmas.List.{append-nil, length-append, drop_at}
 use Rattle.std.proofs.lemmas.List.Concat.{flat_map-append}
 use Rattle.tt_lex.specs.declared.Token.{Token}
 use Rattle.tt_lex.specs.declared.TokenKind.{TokenKind}
 use Rattle.tt_lex.specs.declared.LexFault.{LexFault}
 use Rattle.tt_lex.specs.declared.scan.Front.{Front}
-use Rattle.tt_lex.specs.Lexis.{Piece, spelling, spelled, IsPiece, EndsBefore, ArePieces, kind_of, with_token, tokens_from, HasTokens, HasFault, IsFault, AreInOrder, IsSpelled}
+use Rattle.tt_lex.specs.Lexis.{Piece, spelling, spelled, IsPiece, EndsBefore, ArePieces, kind_of, with_token, tokens_from, HasTokens, HasFault, IsFault}
 use Rattle.tt_lex.specs.Scanning.{Takes}
 use Rattle.tt_lex.specs.answer.Fronts.{spelling_some}
 
