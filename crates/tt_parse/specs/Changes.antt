@@ -14,11 +14,11 @@ use Rattle.tt_sql.specs.grammar.Written.{tuple}
 
 -- ---- the columns and the rows of an INSERT
 
-abbrev pub inserted : ℕ → Gram
-inserted levels = maybe (brackets (listed name)) ▸ (one VALUES ▸ listed tuple ▸ way 0 ∣ read_query levels ▸ way 1)
+abbrev pub inserts : ℕ → Gram
+inserts levels = maybe (brackets (listed name)) ▸ (one VALUES ▸ listed tuple ▸ way 0 ∣ read_query levels ▸ way 1)
 
-abbrev pub inserted_marks : Option (List Name) × InsertSource → List Mark
-inserted_marks x = maybe_marks names_marks x.0 ++ insert_source_marks x.1
+abbrev pub inserts_marks : Option (List Name) × InsertSource → List Mark
+inserts_marks x = maybe_marks names_marks x.0 ++ insert_source_marks x.1
 
 -- ---- the new values and the filter of an UPDATE
 

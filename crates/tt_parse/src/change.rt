@@ -11,7 +11,7 @@ ghost use Rattle.tt_sql.specs.machine.Factored.{read_delete, read_insert, read_q
 ghost use Rattle.tt_sql.specs.grammar.TokenKinds.{VALUES};
 ghost use Rattle.tt_sql.specs.grammar.Written.{copy, tuple};
 ghost use Rattle.tt_sql.specs.determined.Expressions.{IsGivenPredicate};
-ghost use Rattle.tt_parse.specs.Changes.{changes, changes_marks, inserted, inserted_marks};
+ghost use Rattle.tt_parse.specs.Changes.{changes, changes_marks, inserts, inserts_marks};
 ghost use Rattle.tt_terminal.specs.Reading.{IsKnown, Reads};
 
 use sqlite_items::Items;
@@ -149,7 +149,7 @@ fn inserted_of<'a>(
     rest: Rest<'a>,
 ) -> Result<((Option<Items<Name>>, InsertSource), Rest<'a>), ParseError>
     requires { IsKnown rest }
-    ensures reads { Reads (λ x. inserted_marks x.0) (λ x. x.1) (inserted levels) rest.entry result }
+    ensures reads { Reads (λ x. inserts_marks x.0) (λ x. x.1) (inserts levels) rest.entry result }
     ensures columns { IfOk result (λ x. WhenThere (λ names. IsListed (λ n. ⊤) names) x.0.0) }
     ensures source { IfOk result (λ x. IsGivenInsertSource x.0.1) }
 {

@@ -26,18 +26,18 @@ pub record IsGivenQueryTail (t : QueryTail) : Type 0 where
   pub group : Each IsAlone t.group
   pub order : Each IsGivenKey t.order
 
--- ---- the filter, and what stands behind it
+-- ---- how a query ends: the filter, and what stands behind it
 
-abbrev pub filtered : ℕ → Gram
-filtered levels = maybe (one WHERE ▸ Again Predicate levels) ▸ query_tail
+abbrev pub ends : ℕ → Gram
+ends levels = maybe (one WHERE ▸ Again Predicate levels) ▸ query_tail
 
-abbrev pub filtered_marks : Option Filter → QueryTail → List Mark
-filtered_marks filter tail = maybe_marks predicate_marks filter ++ query_tail_marks tail
+abbrev pub ends_marks : Option Filter → QueryTail → List Mark
+ends_marks filter tail = maybe_marks predicate_marks filter ++ query_tail_marks tail
 
 -- ---- the whole
 
 abbrev pub query_end_marks : QueryEnd → List Mark
-query_end_marks e = maybe_marks clause_marks e.clause ++ filtered_marks e.filter e.tail
+query_end_marks e = maybe_marks clause_marks e.clause ++ ends_marks e.filter e.tail
 
 pub record IsGivenQueryEnd (e : QueryEnd) : Type 0 where
   pub clause : WhenThere IsGivenClause e.clause

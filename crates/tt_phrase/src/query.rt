@@ -11,7 +11,7 @@ ghost use Rattle.tt_sql.specs.marks.Queries.{key_marks, key_column_marks, maybe_
 ghost use Rattle.tt_sql.specs.grammar.Combinators.{listed, maybe, name as name_part, number as number_part, one, way, ◌▸◌, ◌∣◌};
 ghost use Rattle.tt_sql.specs.grammar.TokenKinds.{ASC, BY, DESC, GROUP, LIMIT, ORDER};
 ghost use Rattle.tt_sql.specs.grammar.Written.{key};
-ghost use Rattle.tt_phrase.specs.QueryEnds.{IsGivenQueryEnd, IsGivenQueryTail, filtered, filtered_marks, query_end_marks, query_tail, query_tail_marks};
+ghost use Rattle.tt_phrase.specs.QueryEnds.{IsGivenQueryEnd, IsGivenQueryTail, ends, ends_marks, query_end_marks, query_tail, query_tail_marks};
 ghost use Rattle.tt_terminal.specs.Reading.{IsKnown, Passes, Reads};
 
 use crate::item::selection_of;
@@ -189,7 +189,7 @@ fn filtered_of<'a>(
     rest: Rest<'a>,
 ) -> Result<(Option<Predicate>, QueryTail, Rest<'a>), ParseError>
     requires { IsKnown rest }
-    ensures reads { Reads (λ x. filtered_marks x.0 x.1) (λ x. x.2) (filtered levels) rest.entry result }
+    ensures reads { Reads (λ x. ends_marks x.0 x.1) (λ x. x.2) (ends levels) rest.entry result }
     ensures filter { IfOk result (λ x. WhenThere IsGivenPredicate x.0) }
     ensures tail { IfOk result (λ x. IsGivenQueryTail x.1) }
 {

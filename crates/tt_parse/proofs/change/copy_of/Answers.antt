@@ -1,8 +1,7 @@
 use Rattle.tt_terminal.proofs.Exits.{exits, within}
-use Rattle.tt_terminal.proofs.Pairs.{pair_first, pair_keeps, pair_reads}
+use Rattle.tt_terminal.proofs.Pairs.{pair_first, pair_reads}
 use Rattle.tt_terminal.proofs.Steps.{passes_both, stops_first, stops_second}
 use Rattle.tt_sql.specs.marks.Expressions.{quoted_marks}
-use Rattle.tt_sql.specs.determined.Queries.{IsAloneTable}
 use Rattle.tt_parse.proofs.change.copy_of.Goals as goal
 
 pub returns-in_err-rest-clause-reads : goal.returns-in_err-rest-clause-reads

@@ -1,4 +1,4 @@
-use Rattle.std.proofs.Common.{◌≡◌, false, ◌==◌, ◌++◌, ◌∷◌, [], map, refl, sym}
+use Rattle.std.proofs.Common.{◌++◌, ◌∷◌, [], map, refl, sym}
 use Rattle.std.specs.Prelude.{⊤}
 use Rattle.std.proofs.lemmas.Bool.{eqb-true}
 use Rattle.tt_sql.specs.grammar.Grammar.{Way}

@@ -4,7 +4,7 @@ use Rattle.tt_sql.specs.grammar.Grammar.{Way, Mark, At, Meant}
 use Rattle.tt_sql.specs.marks.Expressions.{expr_marks, factor_marks, addend_marks, repeated}
 use Rattle.tt_sql.proofs.marks.Expressions.{marks-Expr, marks-Term, marks-Addend, marks-Literal, marks-Bracket, marks-Negated}
 use Rattle.tt_terminal.proofs.Pairs.{pair_first, pair_holds, pair_reads}
-use Rattle.tt_terminal.proofs.Steps.{marks_are, passes_as, passes_both, passes_left, passes_right, passes_ways, passes_word, takes_kind, word_kind_is, stops_right, stops_first, stops_second, reads_as, collected_all, collected_push, collected_fails, error_as, stops_word, stops_left, stops_again, stops_here, stops_note, no_word, passes_again, passes_at, passes_at_both, passes_way, passes_token, passes_note, passes_anywhere, placed_kind_is, is_of_one}
+use Rattle.tt_terminal.proofs.Steps.{marks_are, passes_as, passes_both, passes_left, passes_right, passes_ways, passes_word, takes_kind, word_kind_is, stops_right, stops_first, stops_second, reads_as, collected_all, collected_push, collected_fails, error_as, stops_word, stops_left, stops_again, stops_here, stops_note, passes_again, passes_at, passes_at_both, passes_way, passes_token, passes_note, passes_anywhere, placed_kind_is, is_of_one}
 use Rattle.tt_terminal.proofs.Numbers.{passes_number, passes_negative}
 use Rattle.tt_phrase.proofs.Factors.{other_simple, other_last, stops_last, other_nested, stops_nested}
 use Rattle.tt_terminal.proofs.Literals.{same_negative}

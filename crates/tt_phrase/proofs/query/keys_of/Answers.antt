@@ -4,7 +4,7 @@ use Rattle.tt_sql.specs.marks.Queries.{key_marks}
 use Rattle.tt_terminal.proofs.Exits.{exits, within}
 use Rattle.tt_terminal.proofs.Steps.{word_shorter}
 use Rattle.tt_phrase.proofs.GivenTrees.{each_push}
-use Rattle.tt_phrase.proofs.Lists.{list_ends, list_next, listed_end, pending_begins, pending_more}
+use Rattle.tt_phrase.proofs.Lists.{list_ends, list_next, pending_begins, pending_more}
 use Rattle.tt_phrase.proofs.query.keys_of.Goals as goal
 
 pub loop-keys-init : goal.loop-keys-init

@@ -1,4 +1,3 @@
-use Rattle.std.proofs.Common.{refl}
 use Rattle.tt_sql.specs.marks.Expressions.{literal_marks}
 use Rattle.tt_value.specs.values.RowText.{IsPrintableValue}
 use Rattle.tt_terminal.proofs.Exits.{exits, within}

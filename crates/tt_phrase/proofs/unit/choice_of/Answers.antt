@@ -8,7 +8,7 @@ use Rattle.tt_sql.proofs.marks.Expressions.{marks-Between, marks-In}
 use Rattle.tt_terminal.proofs.Exits.{within}
 use Rattle.tt_terminal.proofs.Pairs.{pair_first, pair_holds, pair_reads}
 use Rattle.tt_phrase.proofs.Operands.{completes_exit}
-use Rattle.tt_terminal.proofs.Steps.{passes_as, passes_both, passes_left, passes_right, passes_word, stops_first, stops_left, stops_right, stops_second, stops_word, word_kind_is}
+use Rattle.tt_terminal.proofs.Steps.{passes_as, passes_left, passes_right, passes_word, stops_first, stops_left, stops_right, stops_word, word_kind_is}
 use Rattle.tt_phrase.proofs.GivenTrees.{given_between, given_in}
 use Rattle.tt_phrase.proofs.unit.choice_of.Goals as goal
 
