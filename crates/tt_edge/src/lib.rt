@@ -16,6 +16,3 @@ pub use reading::{Unread, read_all};
 pub use std_sink::StdSink;
 pub use std_source::StdSource;
 pub use writing::{Unfinished, write_all};
-
-#[cfg(test)]
-mod tests;

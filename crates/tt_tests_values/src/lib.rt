@@ -1,8 +1,10 @@
-//! Tests of values, texts, bags, tokens, dates and scripts.
+//! Tests of values, texts, bags, tokens, dates, scripts, sources and sinks.
 #![tactic(auto)]
 
 #[cfg(test)]
 mod dates;
+#[cfg(test)]
+mod edge;
 #[cfg(test)]
 mod scripts;
 #[cfg(test)]

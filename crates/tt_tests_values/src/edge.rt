@@ -1,14 +1,14 @@
-//! What no clause says: that the calls succeed with ample memory, and the adapters over std's streams.
+//! Sources and sinks: that the calls succeed with ample memory, and the adapters over std's streams.
 
-use crate::{
-    Failed, MemorySink, MemorySource, Sink, Source, StdSink, StdSource, Unfinished, Unread,
-    Unwritten, read_all, write_all,
-};
 use std::alloc::Global;
 use std::io;
 use std::io::{Read, Write};
 use std::process::Abort;
 use std::test::Fail;
+use tt_edge::{
+    Failed, MemorySink, MemorySource, Sink, Source, StdSink, StdSource, Unfinished, Unread,
+    Unwritten, read_all, write_all,
+};
 
 const TEXT: &[u8] = b"abcdefg";
 
