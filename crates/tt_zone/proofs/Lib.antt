@@ -1,0 +1,3 @@
+pub mod DatesByParts
+pub mod PredicateFolds
+pub mod Walking

@@ -1,0 +1,5 @@
+pub mod Days
+pub mod Possible
+pub mod Sides
+pub mod TruthSets
+pub mod Zones

@@ -1,0 +1,37 @@
+-- The true zones of rows: per column the least and the greatest value that is not NULL, and how many NULLs and rows there are.
+use Rattle.std.specs.Prelude.{ℕ, List, length, map, fold, ◌||◌, if◌then◌else◌, slice_get}
+use Rattle.std.specs.List.{count_by, range_with_len}
+use Rattle.std.specs.Ordering.{is_lt, is_gt}
+use Rattle.tt_value.specs.declared.value.Value.{Value}
+use Rattle.tt_value.specs.declared.value.Value.TheVariants.{Null}
+use Rattle.tt_value.specs.declared.value.Schema.{Schema}
+use Rattle.tt_value.specs.declared.value.Row.{Row}
+use Rattle.tt_value.specs.Order.{value_cmp}
+use Rattle.tt_value.specs.Scope.{value_or_null}
+use Rattle.tt_value.specs.PredicateMeaning.{is_null}
+use Rattle.tt_zone.specs.declared.zone.Zone.{Zone}
+
+-- the lesser of two values; NULL stands above all
+abbrev pub lesser : Value → Value → Value
+lesser a b = if is_gt (value_cmp a b) then b else a
+
+-- the greater of two values, where NULL stands for none
+abbrev pub greater : Value → Value → Value
+greater a b = if is_null b then a else (if is_null a || is_lt (value_cmp a b) then b else a)
+
+-- the zone of a column of these values; without a value its least and greatest are NULL
+abbrev pub zone_of : List Value → Zone
+zone_of values = record {
+  least = fold lesser Null values;
+  greatest = fold greater Null values;
+  nulls = count_by is_null values;
+  rows = length values;
+}
+
+-- the column at a place; a row that ends before it has NULL there
+abbrev pub column_at : ℕ → List Row → List Value
+column_at k rows = map (λ (row : Row). value_or_null (slice_get row.values k)) rows
+
+-- the true zones of rows, one for each column of the schema
+abbrev pub zones_of : Schema → List Row → List Zone
+zones_of schema rows = map (λ k. zone_of (column_at k rows)) (range_with_len 0 (length schema.columns))
