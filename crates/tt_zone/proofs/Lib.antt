@@ -1,3 +1,11 @@
+pub mod ConditionLaws
 pub mod DatesByParts
+pub mod Orders
+pub mod PossibleLaws
 pub mod PredicateFolds
+pub mod PredicateInduction
+pub mod SeenZones
+pub mod SetLaws
+pub mod TextFronts
+pub mod TrueZones
 pub mod Walking

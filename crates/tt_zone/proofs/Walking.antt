@@ -1,5 +1,5 @@
 -- The walk over a predicate, step by step.
-use Rattle.std.proofs.Common.{◌≡◌, ℕ, ◌+◌, ◌<◌, ◌≤◌, List, [], ◌∷◌, length, map, drop, get_or, Bool, None, refl, ap, sym, ◌∙◌}
+use Rattle.std.proofs.Common.{◌≡◌, ℕ, ◌+◌, ◌<◌, ◌≤◌, List, ◌∷◌, length, drop, get_or, Bool, None, ap, sym, ◌∙◌}
 use Rattle.std.specs.Prelude.{fold}
 use Rattle.std.proofs.lemmas.List.{drop_more, drop_all}
 use Rattle.tt_value.specs.declared.name.Literal.{Literal}
@@ -13,14 +13,13 @@ use Rattle.tt_value.specs.declared.predicate.Predicate.{Predicate, out-Predicate
 use Rattle.tt_value.specs.declared.predicate.Conjunction.{Conjunction}
 use Rattle.tt_value.specs.declared.predicate.Unit.{Unit}
 use Rattle.tt_value.specs.declared.predicate.Unit.TheVariants as unit
-use Rattle.tt_value.specs.declared.value.Kind.{Kind}
 use Rattle.tt_value.specs.Scope.{Scope, beside, kind_of}
 use Rattle.tt_value.specs.PredicateMeaning.{operand_kind}
 use Rattle.tt_zone.specs.declared.zone.Zone.{Zone}
 use Rattle.tt_zone.specs.declared.truth_set.TruthSet.{TruthSet}
 use Rattle.tt_zone.specs.declared.sides.Side.{Side}
 use Rattle.tt_zone.specs.TruthSets.{not_set, and_set, or_set, not_set_if, only_false}
-use Rattle.tt_zone.specs.Possible.{zone_span, value_span, zone_named, operand_span, compared_in, null_in, begins_in, comparison_possible, in_possible, between_possible, unit_possible, all_possible, any_possible, possible, possible_of_conjunction, possible_of_unit}
+use Rattle.tt_zone.specs.Possible.{zone_span, value_span, zone_named, operand_span, compared_in, null_in, begins_in, comparison_possible, in_possible, between_possible, unit_possible, possible, possible_of_conjunction, possible_of_unit}
 use Rattle.tt_zone.specs.Sides.{side_kind, side_span, IsSideOf, literal_compared}
 use Rattle.tt_zone.proofs.PredicateFolds.{fold_map, of_predicate_out, of_conjunction_out, of_not, of_bracket, of_compare, of_is_null, of_in, of_between, of_starts_with}
 

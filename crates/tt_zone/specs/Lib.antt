@@ -1,4 +1,5 @@
 pub mod Days
+pub mod Extremes
 pub mod Possible
 pub mod Sides
 pub mod TruthSets

@@ -1,11 +1,12 @@
 -- Which truth values a predicate may have on a row of a partition, as far as the partition's zones tell.
-use Rattle.std.specs.Prelude.{ℕ, Bool, true, false, not, ◌&&◌, ◌||◌, ◌==◌, nat_lt, if◌then◌else◌, List, fold, map, slice_get, Option, Some, None, is_some, option_and_then}
+use Rattle.std.specs.Prelude.{◌≡◌, Contains, ℕ, Bool, true, false, not, ◌&&◌, ◌||◌, ◌==◌, nat_lt, if◌then◌else◌, List, fold, map, slice_get, Option, Some, None, is_some, option_and_then}
 use Rattle.std.specs.Option.{option_map}
 use Rattle.std.specs.List.{starts_with}
 use Rattle.std.specs.Ordering.{is_eq, is_lt, is_le}
 use Rattle.tt_value.specs.declared.value.Kind.{Kind}
 use Rattle.tt_value.specs.declared.value.Value.{Value}
 use Rattle.tt_value.specs.declared.value.Value.TheVariants.{Text}
+use Rattle.tt_value.specs.declared.value.Row.{Row}
 use Rattle.tt_value.specs.declared.value.Schema.{Schema}
 use Rattle.tt_value.specs.declared.name.ColumnName.{ColumnName}
 use Rattle.tt_value.specs.declared.name.Literal.{Literal}
@@ -20,10 +21,11 @@ use Rattle.tt_value.specs.declared.predicate.Unit.TheFolds.{fold-Predicate, fold
 use Rattle.tt_value.specs.declared.predicate.Unit.TheOpen.{Predicate-F, Conjunction-F, Unit-F}
 use Rattle.tt_value.specs.Order.{value_cmp}
 use Rattle.tt_value.specs.Scope.{Scope, table_scope, beside}
-use Rattle.tt_value.specs.PredicateMeaning.{is_null, operand_kind}
+use Rattle.tt_value.specs.PredicateMeaning.{is_null, operand_kind, truth_of, takes}
 use Rattle.tt_zone.specs.declared.zone.Zone.{Zone}
 use Rattle.tt_zone.specs.declared.truth_set.TruthSet.{TruthSet}
-use Rattle.tt_zone.specs.TruthSets.{not_set, and_set, or_set, not_set_if, only_false}
+use Rattle.tt_zone.specs.Zones.{zones_of}
+use Rattle.tt_zone.specs.TruthSets.{has, not_set, and_set, or_set, not_set_if, only_false}
 
 -- ---- what an operand may be
 
@@ -173,3 +175,12 @@ module _ (scope : Scope) (zones : List Zone) where
 -- whether a row of a partition of these zones may match, by the columns of one table
 abbrev pub may_match : Schema → List Zone → Predicate → Bool
 may_match schema zones p = (possible (table_scope schema) zones p).has_true
+
+-- the truth value of a predicate on each of these rows is one of those that the rows' true zones leave possible
+abbrev pub LeavesEachTruth : Schema → List Row → Predicate → Type 0
+LeavesEachTruth schema rows p =
+    (row : Row) → Contains rows row → has (possible (table_scope schema) (zones_of schema rows) p) (truth_of (table_scope schema) row p) ≡ true
+
+-- the predicate takes none of these rows
+abbrev pub TakesNone : Schema → List Row → Predicate → Type 0
+TakesNone schema rows p = (row : Row) → Contains rows row → takes (table_scope schema) (Some p) row ≡ false

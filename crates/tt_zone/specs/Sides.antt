@@ -1,5 +1,5 @@
 -- What the program keeps of an operand: the kind and the zone of a column, or a written value.
-use Rattle.std.specs.Prelude.{◌≡◌, Bool, List, Option, Some, None}
+use Rattle.std.specs.Prelude.{◌≡◌, List, Option, None}
 use Rattle.std.specs.Option.{option_map, option_copied, unwrap_or}
 use Rattle.tt_value.specs.declared.value.Kind.{Kind}
 use Rattle.tt_value.specs.declared.value.Value.{Value}

@@ -1,7 +1,7 @@
 -- The true zones of rows: per column the least and the greatest value that is not NULL, and how many NULLs and rows there are.
-use Rattle.std.specs.Prelude.{ℕ, List, length, map, fold, ◌||◌, if◌then◌else◌, slice_get}
+use Rattle.std.specs.Prelude.{◌≡◌, true, false, Contains, ℕ, ◌+◌, List, length, map, fold, ◌||◌, if◌then◌else◌, slice_get}
 use Rattle.std.specs.List.{count_by, range_with_len}
-use Rattle.std.specs.Ordering.{is_lt, is_gt}
+use Rattle.std.specs.Ordering.{is_lt, is_le, is_gt}
 use Rattle.tt_value.specs.declared.value.Value.{Value}
 use Rattle.tt_value.specs.declared.value.Value.TheVariants.{Null}
 use Rattle.tt_value.specs.declared.value.Schema.{Schema}
@@ -27,6 +27,28 @@ zone_of values = record {
   nulls = count_by is_null values;
   rows = length values;
 }
+
+abbrev pub null : Value
+null = Null
+
+-- a zone with one more value
+abbrev pub with_value : Zone → Value → Zone
+with_value zone v = record {
+  least = lesser zone.least v;
+  greatest = greater zone.greatest v;
+  nulls = if is_null v then zone.nulls + 1 else zone.nulls;
+  rows = zone.rows + 1;
+}
+
+-- What a zone says of its column: each value that is not NULL lies between the least and the greatest, which are values of
+-- the column where there is one, and else NULL.
+pub record IsZoneOf (values : List Value) (zone : Zone) : Type 0 where
+  pub within : (v : Value) → Contains values v → is_null v ≡ false → (is_le (value_cmp zone.least v) ≡ true) × (is_le (value_cmp v zone.greatest) ≡ true)
+  pub least : (v : Value) → Contains values v → is_null v ≡ false → Contains values zone.least × (is_null zone.least ≡ false)
+  pub greatest : (v : Value) → Contains values v → is_null v ≡ false → Contains values zone.greatest × (is_null zone.greatest ≡ false)
+  pub none : ((v : Value) → Contains values v → is_null v ≡ true) → (zone.least ≡ Null) × (zone.greatest ≡ Null)
+  pub nulls : zone.nulls ≡ count_by is_null values
+  pub rows : zone.rows ≡ length values
 
 -- the column at a place; a row that ends before it has NULL there
 abbrev pub column_at : ℕ → List Row → List Value
