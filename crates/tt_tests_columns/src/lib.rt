@@ -5,3 +5,5 @@
 mod ints;
 #[cfg(test)]
 mod texts;
+#[cfg(test)]
+mod zones;
