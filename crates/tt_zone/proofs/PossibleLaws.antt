@@ -29,7 +29,7 @@ use Rattle.tt_zone.specs.declared.zone.Zone.{Zone}
 use Rattle.tt_zone.specs.declared.truth_set.TruthSet.{TruthSet}
 use Rattle.tt_zone.specs.TruthSets.{has, and_set, or_set, only_false}
 use Rattle.tt_zone.specs.Zones.{zone_of, column_at, zones_of}
-use Rattle.tt_zone.specs.Possible.{zone_span, zone_named, operand_span, comparison_possible, in_possible, unit_possible, possible, may_match, LeavesEachTruth, TakesNone}
+use Rattle.tt_zone.specs.Possible.{zone_span, zone_named, operand_span, comparison_possible, in_possible, unit_possible, possible, LeavesEachTruth, PrunesOnlyMisses}
 use Rattle.tt_zone.proofs.SetLaws.{not_has, not_if_has, and_has, or_has}
 use Rattle.tt_zone.proofs.ConditionLaws.{InSpan, value_in, compared_has, null_has}
 use Rattle.tt_zone.proofs.TextFronts.{begins_has}
@@ -135,5 +135,5 @@ not_true set True h e = absurd (false≢true (sym e ∙ h))
 not_true set False h e = refl
 not_true set Unknown h e = refl
 
-pub table_prunes : (schema : Schema) (rows : List Row) (p : Predicate) → may_match schema (zones_of schema rows) p ≡ false → TakesNone schema rows p
+pub table_prunes : (schema : Schema) (rows : List Row) (p : Predicate) → PrunesOnlyMisses schema rows p
 table_prunes schema rows p e row there = not_true (possible (table_scope schema) (zones_of schema rows) p) (truth_of (table_scope schema) row p) (table_leaves schema rows p row there) e

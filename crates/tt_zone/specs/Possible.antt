@@ -181,6 +181,7 @@ abbrev pub LeavesEachTruth : Schema → List Row → Predicate → Type 0
 LeavesEachTruth schema rows p =
     (row : Row) → Contains rows row → has (possible (table_scope schema) (zones_of schema rows) p) (truth_of (table_scope schema) row p) ≡ true
 
--- the predicate takes none of these rows
-abbrev pub TakesNone : Schema → List Row → Predicate → Type 0
-TakesNone schema rows p = (row : Row) → Contains rows row → takes (table_scope schema) (Some p) row ≡ false
+-- where the true zones of these rows say that none may match, the predicate takes none
+abbrev pub PrunesOnlyMisses : Schema → List Row → Predicate → Type 0
+PrunesOnlyMisses schema rows p =
+    may_match schema (zones_of schema rows) p ≡ false → (row : Row) → Contains rows row → takes (table_scope schema) (Some p) row ≡ false

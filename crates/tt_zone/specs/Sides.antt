@@ -34,6 +34,10 @@ pub record IsSideOf (scope : Scope) (zones : List Zone) (operand : Operand) (s :
   pub kind : side_kind s ≡ operand_kind scope operand
   pub span : (other : Option Kind) → side_span other s ≡ operand_span scope zones other operand
 
+-- the truth values of a comparison, each side being read beside the kind of the other
+abbrev pub sides_compared : Side → Comparison → Side → TruthSet
+sides_compared s c t = compared_in c (side_span (side_kind t) s) (side_span (side_kind s) t)
+
 -- the truth values of a comparison with a literal on the right
 abbrev pub literal_compared : Side → Comparison → Literal → TruthSet
 literal_compared s c l = compared_in c (side_span (kind_of l.value) s) (value_span (beside (side_kind s) l.value))

@@ -2,7 +2,7 @@
 
 ghost use Rattle.std.specs.Prelude.{◌≡◌};
 ghost use Rattle.tt_zone.specs.Possible as spec;
-ghost use Rattle.tt_zone.specs.Sides.{span_of, side_span, side_kind as kind_of_side};
+ghost use Rattle.tt_zone.specs.Sides.{span_of, sides_compared};
 
 use crate::sides::{Side, Span, read_beside, side_kind, span_of_side};
 use crate::truth_set::TruthSet;
@@ -105,8 +105,7 @@ fn compared(sign: Comparison, left: &Span<'_>, right: &Span<'_>) -> TruthSet
 
 /// The truth values of a comparison. Each side is read beside the kind of the other.
 pub fn comparison(left: &Side<'_>, sign: Comparison, right: &Side<'_>) -> TruthSet
-    ensures { result
-        ≡ spec.compared_in sign (side_span (kind_of_side right.now) left.now) (side_span (kind_of_side left.now) right.now) }
+    ensures { result ≡ sides_compared left.now sign right.now }
 {
     let left_read = read_beside(side_kind(right), left);
     let right_read = read_beside(side_kind(left), right);

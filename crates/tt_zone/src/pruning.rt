@@ -3,6 +3,7 @@
 ghost use Rattle.std.specs.Prelude.{◌≡◌};
 ghost use Rattle.tt_value.specs.Scope.{table_scope};
 ghost use Rattle.tt_zone.specs.Possible as spec;
+ghost use Rattle.tt_zone.specs.Possible.{between_possible as between};
 ghost use Rattle.tt_zone.specs.Sides.{literal_compared, no_kind};
 ghost use Rattle.tt_zone.specs.TruthSets.{not_set_if};
 
@@ -66,7 +67,7 @@ fn in_bounds(
     greatest: &Literal,
 ) -> TruthSet
     ensures { result
-        ≡ spec.between_possible (table_scope schema.now) zones.now operand.now least.now greatest.now }
+        ≡ between (table_scope schema.now) zones.now operand.now least.now greatest.now }
 {
     let left = side_of(schema, zones, operand);
     let above = beside_literal(&left, Comparison::GreaterOrEqual, least);
