@@ -9,9 +9,9 @@ use Rattle.tt_value.specs.declared.predicate.Comparison.{Comparison}
 use Rattle.tt_value.specs.declared.predicate.Comparison.TheVariants.{Equal, NotEqual, Less, LessOrEqual, Greater, GreaterOrEqual}
 use Rattle.tt_value.specs.declared.predicate.Truth.{Truth}
 use Rattle.tt_value.specs.declared.predicate.Truth.TheVariants.{Unknown}
-use Rattle.tt_value.specs.Order.{value_cmp}
-use Rattle.tt_value.specs.Truths.{truth_of_bool, not_truth}
-use Rattle.tt_value.specs.PredicateMeaning.{is_null, compared}
+use Rattle.tt_value.specs.values.Order.{value_cmp}
+use Rattle.tt_value.specs.trees.Truths.{truth_of_bool, not_truth}
+use Rattle.tt_value.specs.trees.Predicates.{is_null, compared}
 use Rattle.tt_zone.specs.TruthSets.{has, not_set}
 use Rattle.tt_zone.specs.Possible.{Range, Span, value_span, is_at_most, is_same, equal_in, less_in, at_most_in, truths_in, ranges_in, compared_in, null_in}
 use Rattle.tt_zone.proofs.Orders.{le_trans, le_itself, not_below, above, le_both, same_is, same_itself, lt_within, greater_is, at_least_is}

@@ -12,10 +12,10 @@ use Rattle.jiff_core.specs.declared.civil.date.Date.{Date}
 use Rattle.jiff_core.specs.Calendar.{days_from_civil, IsCivilDate, IsDate}
 use Rattle.jiff_core.specs.Date.{epoch_day, IsYmd}
 use Rattle.jiff_core.proofs.SignedLemmas.{signed_arith}
-use Rattle.tt_value.specs.Calendar.{CivilDate, IsCivil, days_in_month}
-use Rattle.tt_value.specs.CalendarLaws.{number, made, same_months}
-use Rattle.tt_value.specs.CalendarReading.{is_civil, day_number, digits_value, written_date, day_of}
-use Rattle.tt_value.specs.CalendarReadingLaws.{number_is}
+use Rattle.tt_value.specs.calendar.Calendar.{CivilDate, IsCivil, days_in_month}
+use Rattle.tt_value.proofs.calendar.DayNumbers.{number, made, same_months}
+use Rattle.tt_value.specs.calendar.Reading.{is_civil, day_number, digits_value, written_date, day_of}
+use Rattle.tt_value.proofs.calendar.Dates.{number_is}
 use Rattle.tt_zone.specs.Days.{day_if_civil, day_of_parts, has_date_signs}
 
 -- ---- digits

@@ -5,8 +5,9 @@ use Rattle.std.specs.Cmp.{upto, tied_itself}
 use Rattle.std.specs.Ordering.{is_eq, is_lt, is_le, is_gt, is_ge, ordering_reverse}
 use Rattle.std.proofs.lemmas.Bool.{cases_Bool, false≢true}
 use Rattle.tt_value.specs.declared.value.Value.{Value}
-use Rattle.tt_value.specs.Order.{value_cmp}
-use Rattle.tt_value.specs.OrderLaws.{value_total, value_same}
+use Rattle.tt_value.specs.values.Order.{value_cmp}
+use Rattle.tt_value.specs.values.TotalOrder.{value_total}
+use Rattle.tt_value.proofs.values.Ties.{value_same}
 use Rattle.tt_zone.specs.Possible.{is_below, is_at_most, is_same}
 
 not_greater : (o : Ordering) → is_le o ≡ true → is_gt o ≡ false

@@ -22,9 +22,9 @@ use Rattle.tt_value.specs.declared.predicate.Comparison.TheVariants.{Equal, Less
 use Rattle.tt_value.specs.declared.predicate.Predicate.{Predicate, out-Predicate}
 use Rattle.tt_value.specs.declared.predicate.Conjunction.{Conjunction}
 use Rattle.tt_value.specs.declared.predicate.Unit.{Unit}
-use Rattle.tt_value.specs.Scope.{Scope, table_scope, column_place, column_value, value_or_null, beside}
-use Rattle.tt_value.specs.Truths.{and_truth, or_truth, is_true}
-use Rattle.tt_value.specs.PredicateMeaning.{operand_kind, operand_value, comparison_truth, in_truth, unit_truth, truth_of}
+use Rattle.tt_value.specs.trees.Scope.{Scope, table_scope, column_place, column_value, value_or_null, beside}
+use Rattle.tt_value.specs.trees.Truths.{and_truth, or_truth, is_true}
+use Rattle.tt_value.specs.trees.Predicates.{operand_kind, operand_value, comparison_truth, in_truth, unit_truth, truth_of}
 use Rattle.tt_zone.specs.declared.zone.Zone.{Zone}
 use Rattle.tt_zone.specs.declared.truth_set.TruthSet.{TruthSet}
 use Rattle.tt_zone.specs.TruthSets.{has, and_set, or_set, only_false}

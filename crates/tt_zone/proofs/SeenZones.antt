@@ -5,8 +5,8 @@ use Rattle.std.proofs.lemmas.List.{drop_more, drop_all, get_or-map}
 use Rattle.tt_value.specs.declared.value.Value.{Value}
 use Rattle.tt_value.specs.declared.value.Value.TheVariants.{Null}
 use Rattle.tt_value.specs.declared.value.Row.{Row}
-use Rattle.tt_value.specs.Scope.{value_or_null}
-use Rattle.tt_value.specs.PredicateMeaning.{is_null}
+use Rattle.tt_value.specs.trees.Scope.{value_or_null}
+use Rattle.tt_value.specs.trees.Predicates.{is_null}
 use Rattle.tt_zone.specs.declared.zone.Zone.{Zone}
 use Rattle.tt_zone.specs.Zones.{lesser, greater, with_value, zone_of, column_at}
 

@@ -2,7 +2,7 @@
 use Rattle.std.proofs.Common.{◌≡◌, Bool, true, false, arith}
 use Rattle.tt_value.specs.declared.predicate.Truth.{Truth}
 use Rattle.tt_value.specs.declared.predicate.Truth.TheVariants.{True, False, Unknown}
-use Rattle.tt_value.specs.Truths.{not_truth, and_truth, or_truth, not_if}
+use Rattle.tt_value.specs.trees.Truths.{not_truth, and_truth, or_truth, not_if}
 use Rattle.tt_zone.specs.declared.truth_set.TruthSet.{TruthSet}
 use Rattle.tt_zone.specs.TruthSets.{has, not_set, and_set, or_set, not_set_if}
 

@@ -12,8 +12,8 @@ use Rattle.std.proofs.lemmas.Map.Lookups.{exact_unsigned}
 use Rattle.tt_value.specs.declared.value.Value.{Value}
 use Rattle.tt_value.specs.declared.value.Value.TheVariants.{Null, Int, Date, Text}
 use Rattle.tt_value.specs.declared.predicate.Truth.TheVariants.{Unknown}
-use Rattle.tt_value.specs.Order.{value_cmp}
-use Rattle.tt_value.specs.PredicateMeaning.{is_null, begins}
+use Rattle.tt_value.specs.values.Order.{value_cmp}
+use Rattle.tt_value.specs.trees.Predicates.{is_null, begins}
 use Rattle.tt_zone.specs.TruthSets.{has}
 use Rattle.tt_zone.specs.Possible.{Range, Span, is_at_most, is_text, is_text_with, begins_between, has_others, truths_in, begins_in}
 use Rattle.tt_zone.proofs.Orders.{le_trans}

@@ -6,8 +6,8 @@ use Rattle.std.specs.Ordering.{is_lt, is_gt}
 use Rattle.std.proofs.lemmas.Bool.{cases_Bool, false≢true, lt-ltb}
 use Rattle.tt_value.specs.declared.value.Value.{Value}
 use Rattle.tt_value.specs.declared.value.Value.TheVariants.{Null, Int, Date, Text}
-use Rattle.tt_value.specs.Order.{value_cmp}
-use Rattle.tt_value.specs.PredicateMeaning.{is_null}
+use Rattle.tt_value.specs.values.Order.{value_cmp}
+use Rattle.tt_value.specs.trees.Predicates.{is_null}
 use Rattle.tt_zone.specs.Zones.{lesser, greater, zone_of, IsZoneOf}
 use Rattle.tt_zone.specs.Possible.{is_at_most, zone_span}
 use Rattle.tt_zone.proofs.Orders.{le_trans, le_itself, le_from_gt, le_from_gt_back, le_from_lt, not_below}

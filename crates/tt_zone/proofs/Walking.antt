@@ -13,8 +13,8 @@ use Rattle.tt_value.specs.declared.predicate.Predicate.{Predicate, out-Predicate
 use Rattle.tt_value.specs.declared.predicate.Conjunction.{Conjunction}
 use Rattle.tt_value.specs.declared.predicate.Unit.{Unit}
 use Rattle.tt_value.specs.declared.predicate.Unit.TheVariants as unit
-use Rattle.tt_value.specs.Scope.{Scope, beside, kind_of}
-use Rattle.tt_value.specs.PredicateMeaning.{operand_kind}
+use Rattle.tt_value.specs.trees.Scope.{Scope, beside, kind_of}
+use Rattle.tt_value.specs.trees.Predicates.{operand_kind}
 use Rattle.tt_zone.specs.declared.zone.Zone.{Zone}
 use Rattle.tt_zone.specs.declared.truth_set.TruthSet.{TruthSet}
 use Rattle.tt_zone.specs.declared.sides.Side.{Side}

@@ -1,7 +1,7 @@
 -- Parts of the reading of a date.
 use Rattle.std.specs.Prelude.{ℕ, ℤ, Bool, ◌&&◌, ◌==◌, List, length, slice_index, Option, Some, None, if◌then◌else◌}
-use Rattle.tt_value.specs.Calendar.{CivilDate}
-use Rattle.tt_value.specs.CalendarReading.{is_civil, day_number}
+use Rattle.tt_value.specs.calendar.Calendar.{CivilDate}
+use Rattle.tt_value.specs.calendar.Reading.{is_civil, day_number}
 
 abbrev pub day_if_civil : CivilDate → Option ℤ
 day_if_civil date = if is_civil date then Some (day_number date) else None

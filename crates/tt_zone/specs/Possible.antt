@@ -19,9 +19,9 @@ use Rattle.tt_value.specs.declared.predicate.Conjunction.{Conjunction}
 use Rattle.tt_value.specs.declared.predicate.Unit.{Unit}
 use Rattle.tt_value.specs.declared.predicate.Unit.TheFolds.{fold-Predicate, fold-Conjunction, fold-Unit}
 use Rattle.tt_value.specs.declared.predicate.Unit.TheOpen.{Predicate-F, Conjunction-F, Unit-F}
-use Rattle.tt_value.specs.Order.{value_cmp}
-use Rattle.tt_value.specs.Scope.{Scope, table_scope, beside}
-use Rattle.tt_value.specs.PredicateMeaning.{is_null, operand_kind, truth_of, takes}
+use Rattle.tt_value.specs.values.Order.{value_cmp}
+use Rattle.tt_value.specs.trees.Scope.{Scope, table_scope, beside}
+use Rattle.tt_value.specs.trees.Predicates.{is_null, operand_kind, truth_of, takes}
 use Rattle.tt_zone.specs.declared.zone.Zone.{Zone}
 use Rattle.tt_zone.specs.declared.truth_set.TruthSet.{TruthSet}
 use Rattle.tt_zone.specs.Zones.{zones_of}

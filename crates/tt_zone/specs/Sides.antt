@@ -6,8 +6,8 @@ use Rattle.tt_value.specs.declared.value.Value.{Value}
 use Rattle.tt_value.specs.declared.predicate.Operand.{Operand}
 use Rattle.tt_value.specs.declared.predicate.Comparison.{Comparison}
 use Rattle.tt_value.specs.declared.name.Literal.{Literal}
-use Rattle.tt_value.specs.Scope.{Scope, kind_of, beside}
-use Rattle.tt_value.specs.PredicateMeaning.{operand_kind}
+use Rattle.tt_value.specs.trees.Scope.{Scope, kind_of, beside}
+use Rattle.tt_value.specs.trees.Predicates.{operand_kind}
 use Rattle.tt_zone.specs.declared.zone.Zone.{Zone}
 use Rattle.tt_zone.specs.declared.sides.Side.{Side}
 use Rattle.tt_zone.specs.declared.sides.Side.TheVariants as side

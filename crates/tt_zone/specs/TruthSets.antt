@@ -3,7 +3,7 @@ use Rattle.std.specs.Prelude.{Bool, true, false, not, ◌||◌, List, [], ◌∷
 use Rattle.std.specs.List.{filter, list_any, flat_map}
 use Rattle.tt_value.specs.declared.predicate.Truth.{Truth}
 use Rattle.tt_value.specs.declared.predicate.Truth.TheVariants.{True, False, Unknown}
-use Rattle.tt_value.specs.Truths.{not_truth, and_truth, or_truth, is_true}
+use Rattle.tt_value.specs.trees.Truths.{not_truth, and_truth, or_truth, is_true}
 use Rattle.tt_zone.specs.declared.truth_set.TruthSet.{TruthSet}
 
 -- whether a truth value is in the set

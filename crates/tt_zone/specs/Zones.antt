@@ -6,9 +6,9 @@ use Rattle.tt_value.specs.declared.value.Value.{Value}
 use Rattle.tt_value.specs.declared.value.Value.TheVariants.{Null}
 use Rattle.tt_value.specs.declared.value.Schema.{Schema}
 use Rattle.tt_value.specs.declared.value.Row.{Row}
-use Rattle.tt_value.specs.Order.{value_cmp}
-use Rattle.tt_value.specs.Scope.{value_or_null}
-use Rattle.tt_value.specs.PredicateMeaning.{is_null}
+use Rattle.tt_value.specs.values.Order.{value_cmp}
+use Rattle.tt_value.specs.trees.Scope.{value_or_null}
+use Rattle.tt_value.specs.trees.Predicates.{is_null}
 use Rattle.tt_zone.specs.declared.zone.Zone.{Zone}
 
 -- the lesser of two values; NULL stands above all

@@ -1,8 +1,8 @@
 //! The zone of a column, from its values.
 
 ghost use Rattle.std.specs.Prelude.{◌≡◌, ◌+◌, ◌<◌, ◌≤◌, ◌^◌, length, slice_get, IfOk};
-ghost use Rattle.tt_value.specs.Scope.{value_or_null};
-ghost use Rattle.tt_value.specs.PredicateMeaning.{is_null as null_test};
+ghost use Rattle.tt_value.specs.trees.Scope.{value_or_null};
+ghost use Rattle.tt_value.specs.trees.Predicates.{is_null as null_test};
 ghost use Rattle.tt_zone.specs.Zones as spec;
 ghost use Rattle.tt_zone.specs.Extremes.{zone_seen};
 

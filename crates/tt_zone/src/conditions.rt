@@ -141,7 +141,7 @@ fn is_text_with(front: &[u8], value: &Value) -> bool
 }
 
 /// Whether a text is at most a value. NULL stands above it, and numbers and dates below.
-#[tactic(auto, unfolding(tt_value::specs::Order::value_cmp))]
+#[tactic(auto, unfolding(tt_value::specs::values::Order::value_cmp))]
 fn is_text_at_most(front: &[u8], value: &Value) -> bool
     ensures { result ≡ spec.is_at_most (spec.text_of front.now) value.now }
 {
@@ -153,7 +153,7 @@ fn is_text_at_most(front: &[u8], value: &Value) -> bool
 }
 
 /// Whether a value is at most a text.
-#[tactic(auto, unfolding(tt_value::specs::Order::value_cmp))]
+#[tactic(auto, unfolding(tt_value::specs::values::Order::value_cmp))]
 fn is_at_most_text(value: &Value, front: &[u8]) -> bool
     ensures { result ≡ spec.is_at_most value.now (spec.text_of front.now) }
 {

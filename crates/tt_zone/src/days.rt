@@ -3,7 +3,7 @@
 ghost use Rattle.std.specs.Prelude.{◌≡◌, ◌≤◌, if◌then◌else◌, length, None, Some};
 ghost use Rattle.std.specs.List.{list_all};
 ghost use Rattle.std.specs.Char.{is_ascii_digit};
-ghost use Rattle.tt_value.specs.CalendarReading.{day_of, digits_value};
+ghost use Rattle.tt_value.specs.calendar.Reading.{day_of, digits_value};
 ghost use Rattle.tt_zone.specs.Days.{day_of_parts, has_date_signs};
 
 use jiff_core::civil::Date;

@@ -1,7 +1,7 @@
 //! Which truth values a predicate may have on the rows of a partition, and whether one of them may match.
 
 ghost use Rattle.std.specs.Prelude.{◌≡◌};
-ghost use Rattle.tt_value.specs.Scope.{table_scope};
+ghost use Rattle.tt_value.specs.trees.Scope.{table_scope};
 ghost use Rattle.tt_zone.specs.Possible as spec;
 ghost use Rattle.tt_zone.specs.Possible.{between_possible as between};
 ghost use Rattle.tt_zone.specs.Sides.{literal_compared, no_kind};

@@ -2,7 +2,7 @@
 
 ghost use Rattle.std.specs.Prelude.{◌≡◌, Some};
 ghost use Rattle.std.specs.Option.{option_copied};
-ghost use Rattle.tt_value.specs.Scope.{table_scope, column_kind};
+ghost use Rattle.tt_value.specs.trees.Scope.{table_scope, column_kind};
 ghost use Rattle.tt_zone.specs.Possible.{zone_span, zone_named, value_span};
 ghost use Rattle.tt_zone.specs.Sides.{side_kind as kind_of_side, span_read, side_span, IsSideOf, span_of};
 

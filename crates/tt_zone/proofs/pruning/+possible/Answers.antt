@@ -1,5 +1,5 @@
 use Rattle.std.proofs.Common.{ap, sym, ◌∙◌}
-use Rattle.tt_value.specs.Scope.{table_scope}
+use Rattle.tt_value.specs.trees.Scope.{table_scope}
 use Rattle.tt_zone.specs.Possible.{zone_span, begins_in}
 use Rattle.tt_zone.proofs.Walking.{possible_out, conjunction_out, possible_Not, possible_Bracket, possible_Compare, possible_IsNull, possible_In, possible_Between, possible_StartsWith}
 use Rattle.tt_zone.proofs.pruning.+possible.Goals as goal

@@ -1,6 +1,6 @@
 use Rattle.std.proofs.Common.{◌≡◌, drop}
 use Rattle.std.specs.Prelude.{fold}
-use Rattle.tt_value.specs.Scope.{table_scope}
+use Rattle.tt_value.specs.trees.Scope.{table_scope}
 use Rattle.tt_zone.specs.Possible.{possible, possible_of_conjunction}
 use Rattle.tt_zone.proofs.Walking.{or_conjunction, and_unit}
 use Rattle.tt_zone.proofs.pruning.+possible.Given as goal

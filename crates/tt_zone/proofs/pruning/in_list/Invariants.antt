@@ -1,6 +1,6 @@
 use Rattle.std.proofs.Common.{◌≡◌, drop}
 use Rattle.std.specs.Prelude.{fold}
-use Rattle.tt_value.specs.Scope.{table_scope}
+use Rattle.tt_value.specs.trees.Scope.{table_scope}
 use Rattle.tt_zone.specs.Possible.{in_possible}
 use Rattle.tt_zone.proofs.Walking.{or_equal}
 use Rattle.tt_zone.proofs.pruning.in_list.Given as goal
