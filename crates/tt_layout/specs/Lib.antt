@@ -1,0 +1,5 @@
+pub mod Numbers
+pub mod Chain
+pub mod Spans
+pub mod Holds
+pub mod Owners

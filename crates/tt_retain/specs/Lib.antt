@@ -1,0 +1,3 @@
+pub mod Retention
+pub mod Horizon
+pub mod Steps
