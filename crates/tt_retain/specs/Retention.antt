@@ -1,6 +1,5 @@
 -- What a table keeps of its past, and since when.
-use Rattle.std.specs.Prelude.{◌≡◌, ℕ, ◌<◌, ◌≤◌, ◌^◌, min, Bool, true, false, if◌then◌else◌, List, [], ◌∷◌, ◌++◌, map, ⊤}
-use Rattle.std.specs.List.{All}
+use Rattle.std.specs.Prelude.{◌≡◌, ℕ, ◌<◌, ◌≤◌, ◌^◌, min, Bool, true, false, if◌then◌else◌, List, [], ◌∷◌, ◌++◌, ⊤}
 use Rattle.tt_retain.specs.declared.regime.Regime.{Regime}
 
 -- the regimes of a table in the order in which they begin, whether it is transient, and whether the last regime is its end

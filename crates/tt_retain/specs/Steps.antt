@@ -1,9 +1,8 @@
 -- How regimes are kept: each beside the greatest limit that those before it leave once it has begun.
-use Rattle.std.specs.Prelude.{◌≡◌, ℕ, ◌+◌, ◌≤◌, ◌<◌, Bool, false, List, [], ◌∷◌, map, length, ℤ, pos, ◌-ℤ◌, ⊤, vec_len, vec_capacity}
+use Rattle.std.specs.Prelude.{◌≡◌, List, [], ◌∷◌, map, ℤ, pos, ◌-ℤ◌, ⊤}
 use Rattle.std.specs.Int.{int_max}
 use Rattle.tt_retain.specs.declared.regime.Regime.{Regime}
 use Rattle.tt_retain.specs.declared.regimes.Step.{Step}
-use Rattle.tt_retain.specs.Retention.{Retention, FollowsFrom}
 use Rattle.tt_retain.specs.Horizon.{retention_of}
 
 abbrev pub regimes_in : List Step → List Regime

@@ -1,5 +1,5 @@
 //! What the horizon is worth, as laws of its definition.
-ghost use Rattle.std.specs.Prelude.{◌≡◌, ℕ, ◌≤◌, ℤ, pos, ◌-ℤ◌, ◌≤ℤ◌, ◌<ℤ◌};
+ghost use Rattle.std.specs.Prelude.{◌≡◌, ℕ, ◌<◌, ◌≤◌, ◌^◌, ℤ, pos, ◌≤ℤ◌, ◌<ℤ◌};
 ghost use Rattle.tt_retain.specs.Retention.{Retention, IsRetention, with_regime, with_end, last_begun};
 ghost use Rattle.tt_retain.specs.Horizon.{horizon_of};
 
@@ -20,6 +20,6 @@ pub fn past_horizons_stay()
 /// What was past the horizon before a new regime stays past it: a raised retention brings nothing back.
 pub fn expired_stays_expired()
     ensures { (table : Retention) (moment days : ℕ) (x s u : ℤ) → IsRetention table → last_begun table ≤ moment
-        → days ≤ 90 → x ≤ℤ horizon_of table s → s ≤ℤ pos moment → s ≤ℤ u
+        → moment < 2 ^ 62 → days ≤ 90 → x ≤ℤ horizon_of table s → s ≤ℤ pos moment → s ≤ℤ u
         → x ≤ℤ horizon_of (with_regime table moment days) u }
 {}

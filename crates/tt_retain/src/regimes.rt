@@ -74,7 +74,13 @@ impl Regimes {
         ensures err { OnErr result (self.new ≡ self.old) }
     {
         self.steps.reserve(2)?;
-        let step = next_step(&self.steps, Regime { begun: moment, days });
+        let step = next_step(
+            &self.steps,
+            Regime {
+                begun: moment,
+                days,
+            },
+        );
         let Ok(()) = self.steps.push(step) else {
             unreachable!()
         };
@@ -88,7 +94,13 @@ impl Regimes {
         requires goes_on { self.old.ended ≡ false }
         ensures { self.new ≡ with_end self.old moment }
     {
-        let step = next_step(&self.steps, Regime { begun: moment, days: 0 });
+        let step = next_step(
+            &self.steps,
+            Regime {
+                begun: moment,
+                days: 0,
+            },
+        );
         let Ok(()) = self.steps.push(step) else {
             unreachable!()
         };
@@ -132,13 +144,22 @@ impl Regimes {
         ensures { result ≡ stage_of self.now ended moment }
     {
         let now = moment as i64;
-        if is_above(ended, self.horizon(now)) {
+        if self.reaches(ended, now) {
             Stage::TimeTravel
-        } else if !self.transient && is_above(ended, self.horizon(now - FAIL_SAFE)) {
+        } else if !self.transient && self.reaches(ended, now - FAIL_SAFE) {
             Stage::FailSafe
         } else {
             Stage::Gone
         }
+    }
+
+    // Whether the horizon at a moment lies before the end of a span.
+    fn reaches(&self, ended: u64, moment: i64) -> bool
+        requires { neg_ℤ (pos (2 ^ 62)) ≤ℤ moment }
+        ensures { result ≡ int_lt (horizon_of self.now moment) (pos ended) }
+    {
+        let horizon = self.horizon(moment);
+        horizon < 0 || (horizon as u64) < ended
     }
 }
 
@@ -204,10 +225,4 @@ fn begun_at(steps: &[Step], moment: i64) -> usize
     }
     let now = moment as u64;
     steps.partition_point(|step| step.regime.begun <= now)
-}
-
-fn is_above(ended: u64, horizon: i64) -> bool
-    ensures { result ≡ int_lt horizon (pos ended) }
-{
-    horizon < 0 || (horizon as u64) < ended
 }

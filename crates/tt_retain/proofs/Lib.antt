@@ -1,0 +1,4 @@
+pub mod RegimesInOrder
+pub mod Limits
+pub mod HorizonLaws
+pub mod StepLaws
