@@ -3,6 +3,7 @@
 
 pub mod facts;
 pub mod hold;
+pub mod laws;
 pub mod layouts;
 pub mod numbers;
 pub mod piece;
