@@ -1,6 +1,6 @@
 -- Lists that ascend, and that the numbers of such a list determine it.
-use Rattle.std.proofs.Common.{◌≡◌, ℕ, ◌+◌, ◌<◌, ◌≤◌, Bool, true, false, not, ◌||◌, List, [], ◌∷◌, filter, ◌==◌, cond, refl, ap, sym, ◌∙◌, ◌⊎◌, inl, inr, arith}
-use Rattle.std.proofs.lemmas.Bool.{cases_order, cases_Bool, cases_eq, eq-eqb, ne_eqb}
+use Rattle.std.proofs.Common.{◌≡◌, ℕ, ◌+◌, ◌<◌, ◌≤◌, Bool, true, false, not, ◌||◌, List, [], ◌∷◌, filter, cond, refl, ap, sym, ◌∙◌, inl, inr, arith}
+use Rattle.std.proofs.lemmas.Bool.{cases_order, cases_eq, eq-eqb, ne_eqb}
 use Rattle.tt_layout.specs.Numbers.{AscendsFrom, IsAscending, has, without, with_number, joined, changed}
 use Rattle.tt_layout.proofs.Members.{with_below, with_same, with_above}
 
@@ -20,9 +20,9 @@ pub ascends-with_number : (ns : List ℕ) (n low : ℕ) → AscendsFrom low ns �
 ascends-with_number [] n low up h = (h, tt)
 ascends-with_number (m ∷ ms) n low up h =
     elim (cases_order m n) [
-        inl same ↦ rw (with_same n m ms same) up
-        | inr (inl below) ↦ rw (with_below n m ms below) (up.0, ascends-with_number ms n (m + 1) up.1 (omega arith))
-        | inr (inr above) ↦ rw (with_above n m ms above) (h, (omega arith, up.1))
+      | inl same ↦ rw (with_same n m ms same) up
+      | inr (inl below) ↦ rw (with_below n m ms below) (up.0, ascends-with_number ms n (m + 1) up.1 (omega arith))
+      | inr (inr above) ↦ rw (with_above n m ms above) (h, (omega arith, up.1))
     ]
 
 pub ascends-joined : (ms ns : List ℕ) (low : ℕ) → AscendsFrom low ns → AscendsFrom low ms → AscendsFrom low (joined ns ms)
@@ -66,17 +66,18 @@ same_numbers (n ∷ ns) [] low left right same =
     absurd (cc)
 same_numbers (n ∷ ns) (m ∷ ms) low left right same =
     elim (cases_order n m) [
-        inl e ↦ tails e (λ up all. same_numbers ns ms (n + 1) left.1 up all)
-        | inr (inl below) ↦ absurd (first_below n m ns ms right.1 same below)
-        | inr (inr above) ↦ absurd (first_below m n ms ns left.1 (λ k. sym (same k)) above)
+      | inl e ↦ tails e (λ up all. same_numbers ns ms (n + 1) left.1 up all)
+      | inr (inl below) ↦ absurd (first_below n m ns ms right.1 same below)
+      | inr (inr above) ↦ absurd (first_below m n ms ns left.1 (λ k. sym (same k)) above)
     ]
   where
     in_tails : n ≡ m → (k : ℕ) → has ns k ≡ has ms k
     in_tails e k =
         elim (cases_eq n k) [
-            inl here ↦ has_below ns (n + 1) k left.1 (omega arith) ∙ sym (has_below ms (m + 1) k right.1 (omega arith))
-            | inr away ↦ sym (has_later n ns k away) ∙ same k ∙ has_later m ms k (λ x. away (e ∙ x))
+          | inl here ↦ has_below ns (n + 1) k left.1 (omega arith) ∙ sym (has_below ms (m + 1) k right.1 (omega arith))
+          | inr away ↦ sym (has_later n ns k away) ∙ same k ∙ has_later m ms k (λ x. away (e ∙ x))
         ]
+
     tails : n ≡ m → (AscendsFrom (n + 1) ms → ((k : ℕ) → has ns k ≡ has ms k) → ns ≡ ms) → n ∷ ns ≡ m ∷ ms
     tails e later =
         let rest : ns ≡ ms = later (ascends_lower ms (n + 1) (m + 1) (omega arith) right.1) (in_tails e) in

@@ -33,27 +33,27 @@ pub gone_again : (ns gone added : List ℕ) → IsAscending ns → IsAscending g
 gone_again ns gone added up left right all none =
     same_numbers _ gone 0 (ascends-filter (λ n. not (has (changed ns gone added) n)) ns 0 up) left
     (λ k.
-        has-without (changed ns gone added) ns k
-        ∙ ap (λ (b : Bool). has ns k && not b) (has-changed ns gone added k)
-        ∙ gone_table (has ns k) (has gone k) (has added k) (has_all ns gone k all) (has_none ns added k none))
+    has-without (changed ns gone added) ns k
+    ∙ ap (λ (b : Bool). has ns k && not b) (has-changed ns gone added k)
+    ∙ gone_table (has ns k) (has gone k) (has added k) (has_all ns gone k all) (has_none ns added k none))
 
 pub added_again : (ns gone added : List ℕ) → IsAscending ns → IsAscending gone → IsAscending added → HasAll ns gone → HasNone ns added
     → without ns (changed ns gone added) ≡ added
 added_again ns gone added up left right all none =
     same_numbers _ added 0 (ascends-filter (λ n. not (has ns n)) (changed ns gone added) 0 (ascends-changed ns gone added up right)) right
     (λ k.
-        has-without ns (changed ns gone added) k
-        ∙ ap (λ (b : Bool). b && not (has ns k)) (has-changed ns gone added k)
-        ∙ added_table (has ns k) (has gone k) (has added k) (has_all ns gone k all) (has_none ns added k none))
+    has-without ns (changed ns gone added) k
+    ∙ ap (λ (b : Bool). b && not (has ns k)) (has-changed ns gone added k)
+    ∙ added_table (has ns k) (has gone k) (has added k) (has_all ns gone k all) (has_none ns added k none))
 
 pub changed_back : (ns ms : List ℕ) → IsAscending ns → IsAscending ms → changed ns (without ms ns) (without ns ms) ≡ ms
 changed_back ns ms left right =
     same_numbers _ ms 0 (ascends-changed ns (without ms ns) (without ns ms) left (ascends-filter (λ n. not (has ns n)) ms 0 right)) right
     (λ k.
-        has-changed ns (without ms ns) (without ns ms) k
-        ∙ ap (λ (b : Bool). (has ns k && not b) || has (without ns ms) k) (has-without ms ns k)
-        ∙ ap (λ (b : Bool). (has ns k && not (has ns k && not (has ms k))) || b) (has-without ns ms k)
-        ∙ back_table (has ns k) (has ms k))
+    has-changed ns (without ms ns) (without ns ms) k
+    ∙ ap (λ (b : Bool). (has ns k && not b) || has (without ns ms) k) (has-without ms ns k)
+    ∙ ap (λ (b : Bool). (has ns k && not (has ns k && not (has ms k))) || b) (has-without ns ms k)
+    ∙ back_table (has ns k) (has ms k))
 
 -- ---- two changes as one
 
@@ -77,11 +77,11 @@ changed_twice ns gone added less more up right later =
     (ascends-changed (changed ns gone added) less more (ascends-changed ns gone added up right) later)
     (ascends-changed ns (joined gone less) (joined (without less added) more) up (ascends-joined more (without less added) 0 (ascends-filter (λ n. not (has less n)) added 0 right) later))
     (λ k.
-        has-changed (changed ns gone added) less more k
-        ∙ ap (λ (b : Bool). (b && not (has less k)) || has more k) (has-changed ns gone added k)
-        ∙ twice_table (has ns k) (has gone k) (has added k) (has less k) (has more k)
-        ∙ sym (
-            has-changed ns (joined gone less) (joined (without less added) more) k
-            ∙ ap (λ (b : Bool). (has ns k && not b) || has (joined (without less added) more) k) (has-joined gone less k)
-            ∙ ap (λ (b : Bool). (has ns k && not (has gone k || has less k)) || b) (has-joined (without less added) more k)
-            ∙ ap (λ (b : Bool). (has ns k && not (has gone k || has less k)) || (b || has more k)) (has-without less added k)))
+    has-changed (changed ns gone added) less more k
+    ∙ ap (λ (b : Bool). (b && not (has less k)) || has more k) (has-changed ns gone added k)
+    ∙ twice_table (has ns k) (has gone k) (has added k) (has less k) (has more k)
+    ∙ sym (
+    has-changed ns (joined gone less) (joined (without less added) more) k
+    ∙ ap (λ (b : Bool). (has ns k && not b) || has (joined (without less added) more) k) (has-joined gone less k)
+    ∙ ap (λ (b : Bool). (has ns k && not (has gone k || has less k)) || b) (has-joined (without less added) more k)
+    ∙ ap (λ (b : Bool). (has ns k && not (has gone k || has less k)) || (b || has more k)) (has-without less added k)))

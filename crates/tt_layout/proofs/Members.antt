@@ -1,8 +1,8 @@
 -- Which numbers a list has.
-use Rattle.std.proofs.Common.{◌≡◌, ℕ, ◌+◌, ◌<◌, ◌≤◌, Bool, true, false, not, ◌&&◌, ◌||◌, List, [], ◌∷◌, filter, nat_lt, ◌==◌, cond, refl, ap, sym, ◌∙◌, ◌⊎◌, inl, inr, arith}
-use Rattle.std.specs.List.{list_any, list_all}
+use Rattle.std.proofs.Common.{◌≡◌, ℕ, ◌<◌, Bool, true, false, not, ◌&&◌, ◌||◌, List, [], ◌∷◌, filter, ◌==◌, cond, refl, ap, sym, ◌∙◌, inl, inr, arith}
+use Rattle.std.specs.List.{list_all}
 use Rattle.std.proofs.lemmas.Bool.{cases_order, cases_Bool, lt-ltb, le-ltb, eq-eqb, ne_eqb, eqb-true, and_parts, or_cases, not-true}
-use Rattle.tt_layout.specs.Numbers.{AscendsFrom, IsAscending, has, HasAll, HasNone, without, with_number, joined, changed}
+use Rattle.tt_layout.specs.Numbers.{has, HasAll, HasNone, without, with_number, joined, changed}
 
 -- ---- tests
 
@@ -37,11 +37,11 @@ has-with_number : (n : ℕ) (ns : List ℕ) (k : ℕ) → has (with_number n ns)
 has-with_number n [] k = refl
 has-with_number n (m ∷ ms) k =
     elim (cases_order m n) [
-        inl same ↦ ap (λ (xs : List ℕ). has xs k) (with_same n m ms same)
-            ∙ sym (or_same (m == k) (has ms k)) ∙ ap (λ (x : ℕ). (x == k) || ((m == k) || has ms k)) same
-        | inr (inl below) ↦ ap (λ (xs : List ℕ). has xs k) (with_below n m ms below)
-            ∙ ap (λ (b : Bool). (m == k) || b) (has-with_number n ms k) ∙ or_swap (m == k) (n == k) (has ms k)
-        | inr (inr above) ↦ ap (λ (xs : List ℕ). has xs k) (with_above n m ms above)
+      | inl same ↦ ap (λ (xs : List ℕ). has xs k) (with_same n m ms same)
+          ∙ sym (or_same (m == k) (has ms k)) ∙ ap (λ (x : ℕ). (x == k) || ((m == k) || has ms k)) same
+      | inr (inl below) ↦ ap (λ (xs : List ℕ). has xs k) (with_below n m ms below)
+          ∙ ap (λ (b : Bool). (m == k) || b) (has-with_number n ms k) ∙ or_swap (m == k) (n == k) (has ms k)
+      | inr (inr above) ↦ ap (λ (xs : List ℕ). has xs k) (with_above n m ms above)
     ]
 
 pub has-joined : (ns ms : List ℕ) (k : ℕ) → has (joined ns ms) k ≡ (has ns k || has ms k)
@@ -64,17 +64,18 @@ pub has-filter : (test : ℕ → Bool) (ns : List ℕ) (k : ℕ) → has (filter
 has-filter test [] k = refl
 has-filter test (m ∷ ms) k =
     elim (cases_Bool (test m)) [
-        inl kept ↦ ap (λ (b : Bool). has (cond b (m ∷ filter test ms) (filter test ms)) k) kept
-            ∙ ap (λ (b : Bool). (m == k) || b) (has-filter test ms k)
-            ∙ at_kept (m == k) (has ms k) (test k) (λ e. sym (ap test (eqb-true m k e)) ∙ kept)
-        | inr left ↦ ap (λ (b : Bool). has (cond b (m ∷ filter test ms) (filter test ms)) k) left
-            ∙ has-filter test ms k
-            ∙ at_left (m == k) (has ms k) (test k) (λ e. sym (ap test (eqb-true m k e)) ∙ left)
+      | inl kept ↦ ap (λ (b : Bool). has (cond b (m ∷ filter test ms) (filter test ms)) k) kept
+          ∙ ap (λ (b : Bool). (m == k) || b) (has-filter test ms k)
+          ∙ at_kept (m == k) (has ms k) (test k) (λ e. sym (ap test (eqb-true m k e)) ∙ kept)
+      | inr left ↦ ap (λ (b : Bool). has (cond b (m ∷ filter test ms) (filter test ms)) k) left
+          ∙ has-filter test ms k
+          ∙ at_left (m == k) (has ms k) (test k) (λ e. sym (ap test (eqb-true m k e)) ∙ left)
     ]
   where
     at_kept : (a b t : Bool) → (a ≡ true → t ≡ true) → (a || (b && t)) ≡ ((a || b) && t)
     at_kept true b t h = sym (h refl)
     at_kept false b t h = refl
+
     at_left : (a b t : Bool) → (a ≡ true → t ≡ false) → (b && t) ≡ ((a || b) && t)
     at_left true true t h = refl
     at_left true false t h = sym (h refl)
@@ -93,8 +94,8 @@ holds_of test [] k all there = absurd (cc)
 holds_of test (m ∷ ms) k all there =
     let parts : (test m ≡ true) × (list_all test ms ≡ true) = and_parts (test m) (list_all test ms) all in
     elim (or_cases (m == k) (has ms k) there) [
-        inl here ↦ sym (ap test (eqb-true m k here)) ∙ parts.0
-        | inr later ↦ holds_of test ms k parts.1 later
+      | inl here ↦ sym (ap test (eqb-true m k here)) ∙ parts.0
+      | inr later ↦ holds_of test ms k parts.1 later
     ]
 
 pub has_all : (ns ms : List ℕ) (k : ℕ) → HasAll ns ms → has ms k ≡ true → has ns k ≡ true

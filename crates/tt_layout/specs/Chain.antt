@@ -1,5 +1,5 @@
 -- The layouts of a table, each with the moment at which it begins, and the chain of pieces that stands for them.
-use Rattle.std.specs.Prelude.{◌≡◌, ℕ, zero, suc, ◌+◌, ◌%◌, ◌≤◌, ◌==◌, nat_le, if◌then◌else◌, List, [], ◌∷◌, ◌++◌, filter, Option, Some, None, unwrap_or, ⊤}
+use Rattle.std.specs.Prelude.{◌≡◌, ℕ, zero, suc, ◌+◌, ◌%◌, ◌≤◌, ◌==◌, Bool, true, false, nat_le, if◌then◌else◌, List, [], ◌∷◌, ◌++◌, filter, Option, Some, None, unwrap_or, ⊤}
 use Rattle.std.specs.Option.{option_map}
 use Rattle.tt_layout.specs.declared.piece.Piece.{Piece}
 use Rattle.tt_layout.specs.declared.piece.Piece.TheVariants.{Full, Change}
@@ -10,6 +10,12 @@ abbrev pub last_of : {X : Type 0} → List X → Option X
 last_of [] = None
 last_of (x ∷ []) = Some x
 last_of (_ ∷ y ∷ ys) = last_of (y ∷ ys)
+
+-- all items but the last one
+abbrev pub without_last : {X : Type 0} → List X → List X
+without_last [] = []
+without_last (x ∷ []) = []
+without_last (x ∷ y ∷ ys) = x ∷ without_last (y ∷ ys)
 
 -- the numbers of the last layout
 abbrev pub current_of : List (ℕ × List ℕ) → List ℕ
@@ -50,6 +56,15 @@ pieces_from place before (l ∷ ls) = (l.0, piece_at place before l.1) ∷ piece
 abbrev pub pieces_of : List (ℕ × List ℕ) → List (ℕ × Piece)
 pieces_of layouts = pieces_from 0 [] layouts
 
+-- the piece of one more layout at a place: at each 64th its numbers, and else what is given
+abbrev pub piece_given : ℕ → List ℕ → List ℕ → List ℕ → Piece
+piece_given place before gone added =
+    if place % 64 == 0 then Full (changed before gone added) else Change gone added
+
+abbrev pub is_full : Piece → Bool
+is_full (Full ns) = true
+is_full (Change gone added) = false
+
 -- the numbers for which a piece stands, behind the layout before it
 abbrev pub numbers_of : List ℕ → Piece → List ℕ
 numbers_of before (Full ns) = ns
@@ -59,3 +74,20 @@ numbers_of before (Change gone added) = changed before gone added
 abbrev pub layouts_from : List ℕ → List (ℕ × Piece) → List (ℕ × List ℕ)
 layouts_from before [] = []
 layouts_from before (p ∷ ps) = (p.0, numbers_of before p.1) ∷ layouts_from (numbers_of before p.1) ps
+
+-- a chain is the one of the layouts for which it stands, and these are in order
+pub record IsChain (pieces : List (ℕ × Piece)) : Type 0 where
+  pub order : AreLayouts (layouts_from [] pieces)
+  pub whole : pieces_of (layouts_from [] pieces) ≡ pieces
+
+-- the numbers of the layout at a place, counted from 0
+abbrev pub numbers_at : List (ℕ × List ℕ) → ℕ → List ℕ
+numbers_at [] place = []
+numbers_at (l ∷ ls) zero = l.1
+numbers_at (l ∷ ls) (suc place) = numbers_at ls place
+
+-- the moment at which it begins
+abbrev pub begun_at : List (ℕ × List ℕ) → ℕ → ℕ
+begun_at [] place = 0
+begun_at (l ∷ ls) zero = l.0
+begun_at (l ∷ ls) (suc place) = begun_at ls place

@@ -1,9 +1,8 @@
 -- How a table holds a part at a moment, which tables stand, and which parts are named.
-use Rattle.std.specs.Prelude.{ℕ, Bool, true, false, ◌&&◌, ◌||◌, if◌then◌else◌, List, [], ◌∷◌, Option, Some, None, is_none, IsTrue}
+use Rattle.std.specs.Prelude.{ℕ, Bool, true, false, ◌&&◌, ◌||◌, if◌then◌else◌, Option, Some, None, is_none, IsTrue}
 use Rattle.std.specs.List.{list_any}
 use Rattle.tt_retain.specs.declared.stage.Stage.{Stage}
 use Rattle.tt_retain.specs.declared.stage.Stage.TheVariants as stage
-use Rattle.tt_retain.specs.Retention.{Retention}
 use Rattle.tt_retain.specs.Horizon.{stage_of}
 use Rattle.tt_layout.specs.declared.hold.Hold.{Hold}
 use Rattle.tt_layout.specs.declared.hold.Hold.TheVariants as hold

@@ -1,1 +1,63 @@
-//! Lists of part numbers.
+//! Ascending lists of part numbers, put together and taken apart in one pass.
+ghost use Rattle.std.specs.Prelude.{◌≡◌, IfOk};
+ghost use Rattle.tt_layout.specs.Numbers.{IsAscending, without, joined};
+
+use std::alloc::{AllocError, Global};
+
+/// The numbers that are not in the other list.
+pub(crate) fn remaining(
+    alloc: Global,
+    mut numbers: &[u64],
+    mut gone: &[u64],
+) -> Result<Vec<u64>, AllocError>
+    requires numbers { IsAscending numbers.now }
+    requires gone { IsAscending gone.now }
+    ensures { IfOk result (λ kept. kept.items ≡ without gone.now numbers.now) }
+{
+    let mut kept = Vec::with_capacity(alloc, numbers.len())?;
+    while let (Some((number, later)), Some((taken, others))) = (
+        numbers.split_first(),
+        gone.split_first(),
+    ) {
+        if *number < *taken {
+            kept.push(*number)?;
+            numbers = later;
+        } else if *taken < *number {
+            gone = others;
+        } else {
+            numbers = later;
+        }
+    }
+    kept.extend_from_slice(numbers)?;
+    Ok(kept)
+}
+
+/// The numbers of both lists.
+pub(crate) fn merged(
+    alloc: Global,
+    mut left: &[u64],
+    mut right: &[u64],
+) -> Result<Vec<u64>, AllocError>
+    requires left { IsAscending left.now }
+    requires right { IsAscending right.now }
+    ensures { IfOk result (λ both. both.items ≡ joined left.now right.now) }
+{
+    let mut both = Vec::with_capacity(alloc, left.len())?;
+    while let (Some((first, firsts)), Some((second, seconds))) = (
+        left.split_first(),
+        right.split_first(),
+    ) {
+        if *first < *second {
+            both.push(*first)?;
+            left = firsts;
+        } else if *second < *first {
+            both.push(*second)?;
+            right = seconds;
+        } else {
+            left = firsts;
+        }
+    }
+    both.extend_from_slice(left)?;
+    both.extend_from_slice(right)?;
+    Ok(both)
+}

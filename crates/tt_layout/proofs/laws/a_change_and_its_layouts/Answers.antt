@@ -1,4 +1,4 @@
-use Rattle.tt_layout.proofs.Changes.{gone_again, added_again, changed_back, changed_twice}
+use Rattle.tt_layout.proofs.Changes.{gone_again, added_again, changed_back}
 use Rattle.tt_layout.proofs.laws.a_change_and_its_layouts.Goals as goal
 
 pub returns-clause-gone : goal.returns-clause-gone
