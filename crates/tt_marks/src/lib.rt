@@ -1,0 +1,8 @@
+//! The marks of sessions on tables, shared or exclusive.
+#![tactic(auto)]
+
+pub mod mark;
+pub mod marks;
+
+pub use mark::{HeldBy, Mark};
+pub use marks::Marks;
