@@ -1,8 +1,8 @@
 -- The marks of sessions on tables, as a list in one order: by table, and on one table by session.
-use Rattle.std.specs.Prelude.{◌≡◌, ℕ, ◌<◌, ◌+◌, Bool, true, false, ◌==◌, ◌&&◌, not, List, [], ◌∷◌, length, find, filter, Option, None, Some, IsSome, unwrap_or, Result, Ok, Err, ⊤}
+use Rattle.std.specs.Prelude.{◌≡◌, ℕ, Bool, true, ◌==◌, ◌&&◌, not, List, find, filter, Option, None, Some, Result, Ok, Err}
 use Rattle.std.specs.Option.{option_map}
 use Rattle.std.specs.List.Sorted.{IsStrictlySortedBy}
-use Rattle.std.specs.Ordering.{nat_cmp, on, then_cmp, match_ordering}
+use Rattle.std.specs.Ordering.{nat_cmp, on, then_cmp}
 use Rattle.std.specs.declared.cmp.Ordering.{Ordering}
 use Rattle.tt_marks.specs.declared.mark.Mark.{Mark}
 use Rattle.tt_marks.specs.declared.mark.HeldBy.{HeldBy}
@@ -21,7 +21,8 @@ is_mark_of session table mark = mark.session == session && mark.table == table
 
 -- a session's mark on a table, where it has one: whether it is exclusive
 abbrev pub mark_of : ℕ → ℕ → List Mark → Option Bool
-mark_of session table marks = option_map (λ mark. mark.exclusive) (find (is_mark_of session table) marks)
+mark_of session table marks =
+    option_map (λ mark. mark.exclusive) (find (is_mark_of session table) marks)
 
 -- the marks of a session, by table
 abbrev pub marks_of : ℕ → List Mark → List Mark
@@ -54,7 +55,8 @@ other_holder session table marks = first_holder (is_of_other session) table mark
 
 -- the first other session that has an exclusive mark on a table
 abbrev pub other_exclusive_holder : ℕ → ℕ → List Mark → Option ℕ
-other_exclusive_holder session table marks = first_holder (λ mark. mark.exclusive && is_of_other session mark) table marks
+other_exclusive_holder session table marks =
+    first_holder (λ mark. mark.exclusive && is_of_other session mark) table marks
 
 -- the answer of a call that a session's mark refuses
 abbrev pub unless_held : Option ℕ → Result Unit HeldBy

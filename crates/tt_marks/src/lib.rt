@@ -3,6 +3,7 @@
 
 pub mod mark;
 pub mod marks;
+mod sorted;
 
 pub use mark::{HeldBy, Mark};
 pub use marks::Marks;

@@ -1,6 +1,7 @@
 //! One mark, and why a mark or a drop is refused.
 
-/// A session's mark on a table. The session is its place in the script, from 0, and the table its number.
+/// A session's mark on a table. The session is given by its place in the script, from 0, and the table
+/// by its number.
 #[derive(Clone, Copy, PartialEq, Eq)]
 pub struct Mark {
     pub session: u32,
