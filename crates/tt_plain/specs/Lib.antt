@@ -36,3 +36,17 @@ pub mod UnknownColumns
 pub mod ValueKinds
 pub mod Ways
 pub mod WrongCounts
+pub mod Asked
+pub mod Opening
+pub mod Refusal
+pub mod Stored
+pub mod Meaning
+pub mod Tally
+pub mod Definition
+pub mod Effect
+pub mod Report
+pub mod Text
+pub mod Cluster
+pub mod History
+pub mod Serial
+pub mod Law

@@ -3,5 +3,8 @@
 
 pub mod laws;
 pub mod plain;
+pub mod ranges;
+pub mod store;
+pub mod tally;
 
 pub use plain::{Plain, PlainOpen, PlainSession, PlainTable, Version};

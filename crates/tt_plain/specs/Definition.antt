@@ -1,0 +1,4 @@
+pub mod Alter
+pub mod Changes
+pub mod Clone
+pub mod Create

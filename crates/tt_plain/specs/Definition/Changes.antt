@@ -1,0 +1,35 @@
+-- What each definition changes.
+use Rattle.std.specs.Prelude.{List, Option, Some, [], option_map, ◌∷◌}
+use Rattle.tt_plain.specs.declared.store.PlainTable.{PlainTable}
+use Rattle.tt_plain.specs.Answers.{◌>>=◌}
+use Rattle.tt_plain.specs.Asked.Asked.{Asked, table_asked}
+use Rattle.tt_plain.specs.Asked.Request.{Alters, Clones, Creates, Definition, Drops, Truncates, Undrops}
+use Rattle.tt_plain.specs.Definition.Alter.{alter_changes}
+use Rattle.tt_plain.specs.Definition.Clone.{clone_changes}
+use Rattle.tt_plain.specs.Definition.Create.{DefinitionChanges, create_changes}
+use Rattle.tt_plain.specs.Effect.Effect.{Dropped, NewVersion, TableChange, Undropped}
+use Rattle.tt_plain.specs.Refusal.NothingToUndrop.{table_to_undrop}
+use Rattle.tt_plain.specs.Tally.Changes.{BeginsLayout}
+
+-- a dropped table keeps its name, its number and its past
+abbrev pub drop_changes : Asked → PlainTable → DefinitionChanges
+drop_changes asked table = (Dropped table.number asked.moment ∷ [], [])
+
+abbrev pub undrop_changes : PlainTable → DefinitionChanges
+undrop_changes table = (Undropped table.number ∷ [], [])
+
+-- a version without rows and a layout without parts begin, also where the table is empty
+abbrev pub truncate_changes : Asked → PlainTable → DefinitionChanges
+truncate_changes asked table = (NewVersion table.number asked.moment [] ∷ [], BeginsLayout table.number asked.moment [] ∷ [])
+
+abbrev pub tables_alone : List TableChange → DefinitionChanges
+tables_alone changes = (changes, [])
+
+unfoldable pub definition_changes : Asked → Definition → Option DefinitionChanges
+definition_changes asked (Creates c) = Some (create_changes asked c)
+definition_changes asked (Clones c) = clone_changes asked c
+definition_changes asked (Drops name) = option_map (drop_changes asked) (table_asked asked name)
+definition_changes asked (Undrops name) = option_map undrop_changes (table_to_undrop asked name)
+definition_changes asked (Truncates name) = option_map (truncate_changes asked) (table_asked asked name)
+definition_changes asked (Alters name change) =
+    table_asked asked name >>= λ table. option_map tables_alone (alter_changes asked table change)

@@ -1,0 +1,14 @@
+pub mod Abandon
+pub mod Apply
+pub mod Begin
+pub mod Commit
+pub mod Define
+pub mod Effect
+pub mod End
+pub mod Ending
+pub mod Purge
+pub mod Report
+pub mod Rollback
+pub mod Round
+pub mod Start
+pub mod Wait

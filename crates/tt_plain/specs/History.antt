@@ -1,0 +1,5 @@
+pub mod Complete
+pub mod Contents
+pub mod Replay
+pub mod Step
+pub mod TrueFacts

@@ -1,0 +1,4 @@
+pub mod Bag
+pub mod Goes
+pub mod Past
+pub mod Sound

@@ -1,0 +1,23 @@
+-- Further laws: a legal history can be brought to its end, and the answer of a query that is not refused depends on the bag of the
+-- rows alone.
+use Rattle.std.specs.Prelude.{List, [], ◌++◌, ◌≡◌}
+use Rattle.tt_value.specs.declared.value.Row.{Row}
+use Rattle.tt_value.specs.BagRows.{bag_of}
+use Rattle.tt_value.specs.Scope.{Scope}
+use Rattle.tt_script.specs.declared.script.Script.{Script}
+use Rattle.tt_sql.specs.declared.query.Query.{Query}
+use Rattle.tt_sql.specs.QueryMeaning.{answer_of}
+use Rattle.tt_history.specs.declared.history.Entry.{Entry}
+use Rattle.tt_plain.specs.Asked.Stage.{Carried}
+use Rattle.tt_plain.specs.History.Complete.{IsComplete}
+use Rattle.tt_plain.specs.History.Replay.{IsLegal}
+use Rattle.tt_plain.specs.TypeMismatches.{misfit_in_query}
+use Rattle.tt_plain.specs.UnknownColumns.{unknown_in_query}
+
+abbrev pub CanBeCompleted : Type 0
+CanBeCompleted = (carried : Carried) (program : Script) (history : List Entry) → IsLegal carried program history →
+    (later : List Entry) × IsComplete carried program (history ++ later)
+
+abbrev pub AnswersAreOfBags : Type 0
+AnswersAreOfBags = (scope : Scope) (q : Query) (rows others : List Row) → unknown_in_query scope q ≡ [] → misfit_in_query scope q ≡ [] →
+    bag_of rows ≡ bag_of others → answer_of scope q rows ≡ answer_of scope q others

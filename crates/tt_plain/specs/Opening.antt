@@ -1,0 +1,4 @@
+pub mod Marks
+pub mod Opened
+pub mod Point
+pub mod Seen

@@ -1,0 +1,4 @@
+pub mod Metrics
+pub mod Rows
+pub mod Show
+pub mod Values

@@ -1,0 +1,27 @@
+-- A store with nothing left to do: what is stored is named, and no table that may be reclustered has parts that overlap.
+use Rattle.std.specs.Prelude.{All, AllPairs, List, None, [], false, true, ◌≡◌}
+use Rattle.tt_value.specs.declared.value.Row.{Row}
+use Rattle.tt_script.specs.declared.script.Script.{Script}
+use Rattle.tt_history.specs.declared.history.Entry.{Entry}
+use Rattle.tt_plain.specs.declared.ranges.KeyRange.{KeyRange}
+use Rattle.tt_plain.specs.declared.store.Plain.{Plain}
+use Rattle.tt_plain.specs.declared.store.PlainTable.{PlainTable}
+use Rattle.tt_plain.specs.Asked.Stage.{Carried}
+use Rattle.tt_plain.specs.Cluster.Ranges.{overlap}
+use Rattle.tt_plain.specs.Cluster.Wanted.{table_ranges}
+use Rattle.tt_plain.specs.Effect.Round.{may_be_reclustered}
+use Rattle.tt_plain.specs.History.Contents.{contents_of}
+use Rattle.tt_plain.specs.History.Replay.{store_after}
+use Rattle.tt_plain.specs.Tally.Facts.{doomed_at}
+
+abbrev pub AreApart : List KeyRange → Type 0
+AreApart ranges = AllPairs (λ (a b : KeyRange). overlap a b ≡ false) ranges
+
+abbrev pub IsClustered : List (List Row) → Plain → PlainTable → Type 0
+IsClustered contents store table = may_be_reclustered store table ≡ true → AreApart (table_ranges contents store.tally table)
+
+-- at the moment of the last entry, as far as purges and rounds are carried out
+pub record IsSettled (carried : Carried) (program : Script) (history : List Entry) : Type 0 where
+  pub named : carried.purges ≡ true → doomed_at (store_after carried program history) ((store_after carried program history).moment) ≡ []
+  pub closed : carried.rounds ≡ true → (store_after carried program history).tally.round ≡ None
+  pub clustered : carried.rounds ≡ true → All (IsClustered (contents_of carried program history) (store_after carried program history)) (store_after carried program history).tables

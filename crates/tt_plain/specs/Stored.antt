@@ -1,0 +1,5 @@
+pub mod Empty
+pub mod Names
+pub mod Points
+pub mod Sessions
+pub mod Tables

@@ -1,0 +1,4 @@
+pub mod Journal
+pub mod RefusalTable
+pub mod Replies
+pub mod Transcript
