@@ -1,3 +1,4 @@
+-- How the parts of a table lie over its keys: depth, pick, rebuild and width.
 pub mod Depth
 pub mod Ranges
 pub mod Rebuild

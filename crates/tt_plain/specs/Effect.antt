@@ -1,3 +1,4 @@
+-- What an entry does, as a value, and how it is applied: one file for each kind of entry.
 pub mod Abandon
 pub mod Apply
 pub mod Begin

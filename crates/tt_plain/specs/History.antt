@@ -1,3 +1,4 @@
+-- Histories: each entry after those before it.
 pub mod Complete
 pub mod Contents
 pub mod Replay

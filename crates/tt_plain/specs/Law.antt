@@ -1,3 +1,4 @@
+-- Laws of the definitions, as statements; they are proved elsewhere.
 pub mod Bag
 pub mod Goes
 pub mod Past

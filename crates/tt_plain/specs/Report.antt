@@ -1,3 +1,4 @@
+-- The rows of reports.
 pub mod Metrics
 pub mod Rows
 pub mod Show

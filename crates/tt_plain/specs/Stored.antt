@@ -1,3 +1,4 @@
+-- What the store has: tables, names, sessions and points.
 pub mod Empty
 pub mod Names
 pub mod Points

@@ -1,3 +1,4 @@
+-- The facts of parts: layouts, what is pending and pinned, and what is named.
 pub mod Changes
 pub mod Facts
 pub mod Layouts

@@ -1,3 +1,4 @@
+-- The transcript, to the byte.
 pub mod Journal
 pub mod RefusalTable
 pub mod Replies

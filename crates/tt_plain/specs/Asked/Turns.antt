@@ -9,7 +9,7 @@ use Rattle.tt_plain.specs.declared.store.PlainOpen.{PlainOpen}
 use Rattle.tt_plain.specs.declared.store.PlainSession.{PlainSession}
 use Rattle.tt_plain.specs.Answers.{only_if, ◌>>=◌}
 use Rattle.tt_plain.specs.Asked.Asked.{Asked}
-use Rattle.tt_plain.specs.Asked.Stage.{Carried}
+use Rattle.tt_plain.specs.Asked.Carried.{Carried}
 
 -- A statement that uses a part which is not carried out yet is refused like a text that is none, at place 0.
 abbrev pub carried_out : Carried → Result Statement ℕ → Result Statement ℕ

@@ -5,7 +5,7 @@ use Rattle.tt_script.specs.declared.script.Script.{Script}
 use Rattle.tt_history.specs.declared.history.Entry.{Entry}
 use Rattle.tt_plain.specs.declared.store.Plain.{Plain}
 use Rattle.tt_plain.specs.declared.store.PlainSession.{PlainSession}
-use Rattle.tt_plain.specs.Asked.Stage.{Carried}
+use Rattle.tt_plain.specs.Asked.Carried.{Carried}
 use Rattle.tt_plain.specs.Effect.Rollback.{has_ended_statements}
 use Rattle.tt_plain.specs.History.Replay.{IsLegal, store_after}
 

@@ -19,8 +19,8 @@ use Rattle.tt_plain.specs.declared.store.PlainOpen.{PlainOpen}
 use Rattle.tt_plain.specs.declared.tally.TallyRound.{TallyRound}
 use Rattle.tt_plain.specs.Answers.{◌>>=◌}
 use Rattle.tt_plain.specs.Asked.Asked.{Asked, request_asked}
+use Rattle.tt_plain.specs.Asked.Carried.{Carried}
 use Rattle.tt_plain.specs.Asked.Request.{Request, Writes}
-use Rattle.tt_plain.specs.Asked.Stage.{Carried}
 use Rattle.tt_plain.specs.Asked.Turns.{open_asked}
 use Rattle.tt_plain.specs.Cluster.Rebuild.{rebuilt_rows}
 use Rattle.tt_plain.specs.History.Replay.{pairs_of}

@@ -5,7 +5,7 @@ use Rattle.tt_history.specs.declared.history.Entry.{Entry}
 use Rattle.tt_history.specs.declared.reply.Reply.{Reply}
 use Rattle.tt_plain.specs.declared.store.Plain.{Plain}
 use Rattle.tt_plain.specs.Answers.{◌>>=◌}
-use Rattle.tt_plain.specs.Asked.Stage.{Carried}
+use Rattle.tt_plain.specs.Asked.Carried.{Carried}
 use Rattle.tt_plain.specs.History.Step.{step_of}
 use Rattle.tt_plain.specs.Stored.Empty.{empty_store}
 

@@ -8,7 +8,7 @@ use Rattle.tt_history.specs.declared.history.EntryKind.{EntryKind}
 use Rattle.tt_history.specs.declared.reply.Reply.{Reply}
 use Rattle.tt_plain.specs.declared.store.Plain.{Plain}
 use Rattle.tt_plain.specs.Answers.{only_if, ◌>>=◌}
-use Rattle.tt_plain.specs.Asked.Stage.{Carried}
+use Rattle.tt_plain.specs.Asked.Carried.{Carried}
 use Rattle.tt_plain.specs.Asked.Turns.{next_asked, open_asked}
 use Rattle.tt_plain.specs.Effect.Abandon.{abandon_effect}
 use Rattle.tt_plain.specs.Effect.Apply.{applied}

@@ -12,8 +12,8 @@ use Rattle.tt_plain.specs.declared.store.PlainTable.{PlainTable}
 use Rattle.tt_plain.specs.declared.tally.Tally.{Tally}
 use Rattle.tt_plain.specs.declared.tally.TallyPin.{TallyPin}
 use Rattle.tt_plain.specs.Asked.Asked.{Asked, request_asked}
+use Rattle.tt_plain.specs.Asked.Carried.{Carried}
 use Rattle.tt_plain.specs.Asked.Request.{Request, Writes}
-use Rattle.tt_plain.specs.Asked.Stage.{Carried}
 use Rattle.tt_plain.specs.Asked.Turns.{open_asked}
 use Rattle.tt_plain.specs.History.Contents.{contents_of, rows_of_parts}
 use Rattle.tt_plain.specs.History.Replay.{Run, replay_of}

@@ -8,7 +8,7 @@ use Rattle.tt_script.specs.declared.script.Script.{Script}
 use Rattle.tt_sql.specs.declared.query.Query.{Query}
 use Rattle.tt_sql.specs.QueryMeaning.{answer_of}
 use Rattle.tt_history.specs.declared.history.Entry.{Entry}
-use Rattle.tt_plain.specs.Asked.Stage.{Carried}
+use Rattle.tt_plain.specs.Asked.Carried.{Carried}
 use Rattle.tt_plain.specs.History.Complete.{IsComplete}
 use Rattle.tt_plain.specs.History.Replay.{IsLegal}
 use Rattle.tt_plain.specs.TypeMismatches.{misfit_in_query}

@@ -5,7 +5,7 @@ use Rattle.tt_script.specs.declared.script.Script.{Script}
 use Rattle.tt_history.specs.declared.history.Entry.{Entry}
 use Rattle.tt_plain.specs.declared.store.Plain.{Plain}
 use Rattle.tt_plain.specs.declared.store.PlainTable.{PlainTable}
-use Rattle.tt_plain.specs.Asked.Stage.{Carried}
+use Rattle.tt_plain.specs.Asked.Carried.{Carried}
 use Rattle.tt_plain.specs.History.Replay.{IsLegal, after, store_after}
 use Rattle.tt_plain.specs.Stored.Tables.{rows_at, table_numbered}
 use Rattle.tt_plain.specs.Tally.Layouts.{parts_at}

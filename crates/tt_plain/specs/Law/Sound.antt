@@ -17,7 +17,7 @@ use Rattle.tt_plain.specs.declared.tally.Tally.{Tally}
 use Rattle.tt_plain.specs.declared.tally.TallyPart.{TallyPart}
 use Rattle.tt_plain.specs.declared.tally.TallyPending.{TallyPending}
 use Rattle.tt_plain.specs.declared.tally.TallyPin.{TallyPin}
-use Rattle.tt_plain.specs.Asked.Stage.{Carried}
+use Rattle.tt_plain.specs.Asked.Carried.{Carried}
 use Rattle.tt_plain.specs.Effect.Start.{begun}
 use Rattle.tt_plain.specs.History.Replay.{Run, replay_of}
 use Rattle.tt_plain.specs.Places.{each}

@@ -6,7 +6,7 @@ use Rattle.tt_history.specs.declared.history.Entry.{Entry}
 use Rattle.tt_plain.specs.declared.ranges.KeyRange.{KeyRange}
 use Rattle.tt_plain.specs.declared.store.Plain.{Plain}
 use Rattle.tt_plain.specs.declared.store.PlainTable.{PlainTable}
-use Rattle.tt_plain.specs.Asked.Stage.{Carried}
+use Rattle.tt_plain.specs.Asked.Carried.{Carried}
 use Rattle.tt_plain.specs.Cluster.Ranges.{overlap}
 use Rattle.tt_plain.specs.Cluster.Wanted.{table_ranges}
 use Rattle.tt_plain.specs.Effect.Round.{may_be_reclustered}

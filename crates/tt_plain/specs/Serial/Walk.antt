@@ -9,7 +9,7 @@ use Rattle.tt_history.specs.declared.history.EntryKind.{EntryKind}
 use Rattle.tt_history.specs.Projection.{is_session}
 use Rattle.tt_plain.specs.declared.store.Plain.{Plain}
 use Rattle.tt_plain.specs.Answers.{only_if}
-use Rattle.tt_plain.specs.Asked.Stage.{Carried}
+use Rattle.tt_plain.specs.Asked.Carried.{Carried}
 use Rattle.tt_plain.specs.Cluster.Wanted.{round_wanted}
 use Rattle.tt_plain.specs.Effect.End.{kept}
 use Rattle.tt_plain.specs.History.Complete.{is_finished}

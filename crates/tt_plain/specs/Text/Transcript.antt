@@ -3,7 +3,7 @@ use Rattle.std.specs.Prelude.{List, None, Option, Some, [], codes, decimal, filt
 use Rattle.tt_script.specs.declared.script.Script.{Script}
 use Rattle.tt_history.specs.declared.history.Entry.{Entry}
 use Rattle.tt_history.specs.declared.reply.Reply.{Reply}
-use Rattle.tt_plain.specs.Asked.Stage.{Carried}
+use Rattle.tt_plain.specs.Asked.Carried.{Carried}
 use Rattle.tt_plain.specs.History.Replay.{Run, replay_of}
 use Rattle.tt_plain.specs.Text.Journal.{journal_line, line_feed}
 use Rattle.tt_plain.specs.Text.Replies.{reply_text}

@@ -1,4 +1,4 @@
--- What is carried out so far. The definitions of the store take it as it is given.
+-- What is carried out so far, which the definitions of the store take as it is given.
 use Rattle.std.specs.Prelude.{Bool, true}
 use Rattle.tt_sql.specs.declared.statement.Statement.{Statement}
 
