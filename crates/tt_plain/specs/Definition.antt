@@ -2,4 +2,11 @@
 pub mod Alter
 pub mod Changes
 pub mod Clone
+pub mod Clustering
 pub mod Create
+pub mod Drop
+pub mod Rename
+pub mod SetRetention
+pub mod Swap
+pub mod Truncate
+pub mod Undrop

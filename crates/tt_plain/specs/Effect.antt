@@ -7,9 +7,12 @@ pub mod Define
 pub mod Effect
 pub mod End
 pub mod Ending
+pub mod Landing
+pub mod Miss
 pub mod Purge
 pub mod Report
 pub mod Rollback
 pub mod Round
+pub mod RoundStart
 pub mod Start
 pub mod Wait

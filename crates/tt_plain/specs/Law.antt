@@ -1,5 +1,6 @@
 -- Laws of the definitions, as statements; they are proved elsewhere.
 pub mod Bag
+pub mod Changes
 pub mod Goes
 pub mod Past
 pub mod Sound

@@ -1,26 +1,16 @@
 -- What each definition changes.
-use Rattle.std.specs.Prelude.{List, Option, Some, [], option_map, ◌∷◌}
-use Rattle.tt_plain.specs.declared.store.PlainTable.{PlainTable}
+use Rattle.std.specs.Prelude.{List, Option, Some, [], option_map}
 use Rattle.tt_plain.specs.Answers.{◌>>=◌}
 use Rattle.tt_plain.specs.Asked.Asked.{Asked, table_asked}
 use Rattle.tt_plain.specs.Asked.Request.{Alters, Clones, Creates, Definition, Drops, Truncates, Undrops}
 use Rattle.tt_plain.specs.Definition.Alter.{alter_changes}
 use Rattle.tt_plain.specs.Definition.Clone.{clone_changes}
 use Rattle.tt_plain.specs.Definition.Create.{DefinitionChanges, create_changes}
-use Rattle.tt_plain.specs.Effect.Effect.{Dropped, NewVersion, TableChange, Undropped}
+use Rattle.tt_plain.specs.Definition.Drop.{drop_changes}
+use Rattle.tt_plain.specs.Definition.Truncate.{truncate_changes}
+use Rattle.tt_plain.specs.Definition.Undrop.{undrop_changes}
+use Rattle.tt_plain.specs.Effect.Effect.{TableChange}
 use Rattle.tt_plain.specs.Refusal.NothingToUndrop.{table_to_undrop}
-use Rattle.tt_plain.specs.Tally.Changes.{BeginsLayout}
-
--- a dropped table keeps its name, its number and its past
-abbrev pub drop_changes : Asked → PlainTable → DefinitionChanges
-drop_changes asked table = (Dropped table.number asked.moment ∷ [], [])
-
-abbrev pub undrop_changes : PlainTable → DefinitionChanges
-undrop_changes table = (Undropped table.number ∷ [], [])
-
--- a version without rows and a layout without parts begin, also where the table is empty
-abbrev pub truncate_changes : Asked → PlainTable → DefinitionChanges
-truncate_changes asked table = (NewVersion table.number asked.moment [] ∷ [], BeginsLayout table.number asked.moment [] ∷ [])
 
 abbrev pub tables_alone : List TableChange → DefinitionChanges
 tables_alone changes = (changes, [])

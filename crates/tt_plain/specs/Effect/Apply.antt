@@ -1,5 +1,5 @@
 -- The store after an effect.
-use Rattle.std.specs.Prelude.{List, None, Option, Some, [], fold, if◌then◌else◌, map, slice_set, ℕ, ◌++◌, ◌==◌, ◌∷◌}
+use Rattle.std.specs.Prelude.{List, None, Option, Some, [], find, fold, if◌then◌else◌, map, slice_set, ℕ, ◌++◌, ◌==◌, ◌∷◌}
 use Rattle.tt_value.specs.declared.value.Row.{Row}
 use Rattle.tt_retain.specs.Retention.{with_regime}
 use Rattle.tt_plain.specs.declared.store.Plain.{Plain}
@@ -16,11 +16,19 @@ with_table number f tables = map (λ (table : PlainTable). if table.number == nu
 abbrev pub with_version : ℕ → List Row → PlainTable → PlainTable
 with_version moment rows table = record table { versions = table.versions ++ record { begun = moment; rows = rows } ∷ [] }
 
+abbrev pub name_given : List ℕ → Option (ℕ × List ℕ) → List ℕ
+name_given name None = name
+name_given name (Some given) = given.1
+
+-- the table with the name that is given for its number, if one is
+abbrev pub renamed : List (ℕ × List ℕ) → PlainTable → PlainTable
+renamed names table = record table { name = name_given table.name (find (λ given. given.0 == table.number) names) }
+
 abbrev pub changed_table : List PlainTable → TableChange → List PlainTable
 changed_table tables (Made table) = tables ++ table ∷ []
 changed_table tables (Dropped number moment) = with_table number (λ table. record table { dropped = Some moment }) tables
 changed_table tables (Undropped number) = with_table number (λ table. record table { dropped = None }) tables
-changed_table tables (Renamed number name) = with_table number (λ table. record table { name = name }) tables
+changed_table tables (Renamed names) = map (renamed names) tables
 changed_table tables (NewVersion number moment rows) = with_table number (with_version moment rows) tables
 changed_table tables (NewRegime number moment days) = with_table number (λ table. record table { regimes = with_regime table.regimes moment days }) tables
 changed_table tables (NewKey number key) = with_table number (λ table. record table { key = key }) tables

@@ -6,12 +6,12 @@ use Rattle.tt_plain.specs.declared.store.PlainSession.{PlainSession}
 use Rattle.tt_plain.specs.declared.store.PlainTable.{PlainTable}
 use Rattle.tt_plain.specs.Tally.Changes.{TallyChange}
 
--- how one table changes, which is given by its number unless it is made
+-- how tables change, which are given by their numbers unless they are made; several names may change at once
 pub data TableChange : Type 0 where
   Made : PlainTable → TableChange
   Dropped : (table moment : ℕ) → TableChange
   Undropped : (table : ℕ) → TableChange
-  Renamed : (table : ℕ) (name : List ℕ) → TableChange
+  Renamed : (names : List (ℕ × List ℕ)) → TableChange
   NewVersion : (table moment : ℕ) (rows : List Row) → TableChange
   NewRegime : (table moment days : ℕ) → TableChange
   NewKey : (table : ℕ) (key : Option ℕ) → TableChange

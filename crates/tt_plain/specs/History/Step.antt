@@ -17,10 +17,12 @@ use Rattle.tt_plain.specs.Effect.Commit.{commit_effect}
 use Rattle.tt_plain.specs.Effect.Define.{define_effect}
 use Rattle.tt_plain.specs.Effect.Effect.{Effect}
 use Rattle.tt_plain.specs.Effect.End.{end_effect}
+use Rattle.tt_plain.specs.Effect.Landing.{round_end_effect}
+use Rattle.tt_plain.specs.Effect.Miss.{round_miss_effect}
 use Rattle.tt_plain.specs.Effect.Purge.{purge_effect}
 use Rattle.tt_plain.specs.Effect.Report.{report_effect}
 use Rattle.tt_plain.specs.Effect.Rollback.{closing_effect, rollback_effect}
-use Rattle.tt_plain.specs.Effect.Round.{round_end_effect, round_miss_effect, round_start_effect}
+use Rattle.tt_plain.specs.Effect.RoundStart.{round_start_effect}
 use Rattle.tt_plain.specs.Effect.Start.{start_effect}
 use Rattle.tt_plain.specs.Effect.Wait.{wait_effect}
 use Rattle.tt_history.specs.declared.history.Actor.TheVariants as actor
