@@ -7,7 +7,9 @@ use Rattle.tt_history.specs.declared.history.Entry.{Entry}
 use Rattle.tt_history.specs.declared.history.EntryKind.{EntryKind}
 use Rattle.tt_history.specs.declared.reply.Reply.{Reply}
 use Rattle.tt_plain.specs.declared.store.Plain.{Plain}
+use Rattle.tt_plain.specs.declared.store.PlainOpen.{PlainOpen}
 use Rattle.tt_plain.specs.Answers.{only_if, ◌>>=◌}
+use Rattle.tt_plain.specs.Asked.Asked.{Asked}
 use Rattle.tt_plain.specs.Asked.Carried.{Carried}
 use Rattle.tt_plain.specs.Asked.Turns.{next_asked, open_asked}
 use Rattle.tt_plain.specs.Effect.Abandon.{abandon_effect}
@@ -28,23 +30,30 @@ use Rattle.tt_plain.specs.Effect.Wait.{wait_effect}
 use Rattle.tt_history.specs.declared.history.Actor.TheVariants as actor
 use Rattle.tt_history.specs.declared.history.EntryKind.TheVariants as kind
 
--- an entry of a session, by its kind; the workers' kinds are no session's, and Close comes with temporary tables
-unfoldable pub session_entry : Carried → Script → Plain → (session index : ℕ) → EntryKind → Option Effect
-session_entry carried program store session index (kind.Begin told) = next_asked carried program store session index >>= λ asked. begin_effect asked told
-session_entry carried program store session index (kind.Start told) = next_asked carried program store session index >>= λ asked. start_effect asked told
-session_entry carried program store session index (kind.End gone added) = open_asked carried program store session index >>= λ found. end_effect found gone added
-session_entry carried program store session index (kind.Abandon told) = open_asked carried program store session index >>= λ found. abandon_effect found told
-session_entry carried program store session index (kind.Commit told) = next_asked carried program store session index >>= λ asked. commit_effect asked told
-session_entry carried program store session index kind.Rollback =
-    option_or (next_asked carried program store session index >>= rollback_effect) (closing_effect program store session index)
-session_entry carried program store session index (kind.Define told) = next_asked carried program store session index >>= λ asked. define_effect asked told
-session_entry carried program store session index (kind.Wait told) = next_asked carried program store session index >>= λ asked. wait_effect asked told
-session_entry carried program store session index (kind.Report told numbers) = next_asked carried program store session index >>= λ asked. report_effect asked told numbers
-session_entry carried program store session index (kind.RecluStart table parts) = None
-session_entry carried program store session index (kind.RecluEnd table gone added) = None
-session_entry carried program store session index (kind.RecluMiss table why) = None
-session_entry carried program store session index (kind.Purge parts) = None
-session_entry carried program store session index kind.Close = None
+module _ (carried : Carried) (program : Script) (store : Plain) (session index : ℕ) where
+  -- an entry of the session's next statement, and one of its open statement
+  abbrev pub of_next : (Asked → Option Effect) → Option Effect
+  of_next effect = next_asked carried program store session index >>= effect
+
+  abbrev pub of_open : (Asked × PlainOpen → Option Effect) → Option Effect
+  of_open effect = open_asked carried program store session index >>= effect
+
+  -- an entry of a session, by its kind; the workers' kinds are no session's, and Close comes with temporary tables
+  unfoldable pub session_entry : EntryKind → Option Effect
+  session_entry (kind.Begin told) = of_next (λ asked. begin_effect asked told)
+  session_entry (kind.Start told) = of_next (λ asked. start_effect asked told)
+  session_entry (kind.End gone added) = of_open (λ found. end_effect found gone added)
+  session_entry (kind.Abandon told) = of_open (λ found. abandon_effect found told)
+  session_entry (kind.Commit told) = of_next (λ asked. commit_effect asked told)
+  session_entry kind.Rollback = option_or (of_next rollback_effect) (closing_effect program store session index)
+  session_entry (kind.Define told) = of_next (λ asked. define_effect asked told)
+  session_entry (kind.Wait told) = of_next (λ asked. wait_effect asked told)
+  session_entry (kind.Report told numbers) = of_next (λ asked. report_effect asked told numbers)
+  session_entry (kind.RecluStart table parts) = None
+  session_entry (kind.RecluEnd table gone added) = None
+  session_entry (kind.RecluMiss table why) = None
+  session_entry (kind.Purge parts) = None
+  session_entry kind.Close = None
 
 -- an entry of the worker that makes rounds
 unfoldable pub round_entry : Plain → ℕ → EntryKind → Option Effect

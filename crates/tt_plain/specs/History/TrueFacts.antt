@@ -45,14 +45,15 @@ abbrev pub parts_pinned : Tally → (session table : ℕ) → List ℕ
 parts_pinned tally session table =
     flat_map (λ (pin : TallyPin). pin.parts) (filter (λ (pin : TallyPin). pin.session == session && pin.table == table) tally.pins)
 
--- of some parts those that hold a row which the statement takes
-abbrev pub parts_touched : List (List Row) → Scope → Option Predicate → List ℕ → List ℕ
-parts_touched contents scope wanted parts = filter (λ number. list_any (takes scope wanted) (rows_numbered contents number)) parts
+-- of the pinned parts those that hold a row which the statement takes
+abbrev pub parts_touched : List (List Row) → Asked → ℕ → Scope → Option Predicate → List ℕ
+parts_touched contents asked table scope wanted =
+    filter (λ number. list_any (takes scope wanted) (rows_numbered contents number)) (parts_pinned asked.store.tally asked.session table)
 
 abbrev pub parts_to_replace : List (List Row) → Asked → ℕ → Schema → Dml → List ℕ
 parts_to_replace contents asked table schema (dml.Insert i) = []
-parts_to_replace contents asked table schema (dml.Update u) = parts_touched contents (target_scope u.table schema) u.filter (parts_pinned asked.store.tally asked.session table)
-parts_to_replace contents asked table schema (dml.Delete d) = parts_touched contents (target_scope d.table schema) d.filter (parts_pinned asked.store.tally asked.session table)
+parts_to_replace contents asked table schema (dml.Update u) = parts_touched contents asked table (target_scope u.table schema) u.filter
+parts_to_replace contents asked table schema (dml.Delete d) = parts_touched contents asked table (target_scope d.table schema) d.filter
 parts_to_replace contents asked table schema (dml.Copy c) = []
 
 abbrev pub replaced_by : List (List Row) → Asked → PlainOpen → Request → Option (List ℕ)

@@ -22,9 +22,11 @@ PastStays = (carried : Carried) (program : Script) (history : List Entry) (entry
     KeepsPast (store_after carried program history) (store_after carried program (history ++ entry ∷ []))
 
 -- the horizon never falls, whatever the retention is set to
+abbrev pub KeepsHorizons : Plain → Plain → Type 0
+KeepsHorizons before after = (number : ℕ) (old new : PlainTable) →
+    table_numbered before number ≡ Some old → table_numbered after number ≡ Some new →
+    horizon_of old.regimes (pos before.moment) ≤ℤ horizon_of new.regimes (pos after.moment)
+
 abbrev pub HorizonStays : Type 0
-HorizonStays = (carried : Carried) (program : Script) (history : List Entry) (entry : Entry) (number : ℕ) (old new : PlainTable) →
-    IsLegal carried program (history ++ entry ∷ []) →
-    table_numbered (store_after carried program history) number ≡ Some old →
-    table_numbered (store_after carried program (history ++ entry ∷ [])) number ≡ Some new →
-    horizon_of old.regimes (pos ((store_after carried program history).moment)) ≤ℤ horizon_of new.regimes (pos ((store_after carried program (history ++ entry ∷ [])).moment))
+HorizonStays = (carried : Carried) (program : Script) (history : List Entry) (entry : Entry) → IsLegal carried program (history ++ entry ∷ []) →
+    KeepsHorizons (store_after carried program history) (store_after carried program (history ++ entry ∷ []))

@@ -1,8 +1,9 @@
 -- 17, LockHeld: another session's mark stands in the way.
-use Rattle.std.specs.Prelude.{List, Option, [], if◌then◌else◌, option_map, ℕ}
+use Rattle.std.specs.Prelude.{Bool, List, Option, [], if◌then◌else◌, option_map, ℕ}
 use Rattle.tt_value.specs.declared.name.TableName.{TableName}
 use Rattle.tt_sql.specs.declared.change.Dml.{Dml}
 use Rattle.tt_history.specs.declared.reply.Refusal.{Refusal}
+use Rattle.tt_plain.specs.declared.store.PlainSession.{PlainSession}
 use Rattle.tt_plain.specs.declared.store.PlainTable.{PlainTable}
 use Rattle.tt_plain.specs.Asked.Asked.{Asked, request_asked, table_asked}
 use Rattle.tt_plain.specs.Asked.Request.{Alters, Clones, Creates, Defines, Definition, Drops, Request, Truncates, Undrops, Writes}
@@ -12,13 +13,18 @@ use Rattle.tt_plain.specs.Stored.Sessions.{has_exclusive_mark, has_mark, others_
 use Rattle.tt_sql.specs.declared.change.Dml.TheVariants as dml
 use Rattle.tt_history.specs.declared.reply.Refusal.TheVariants as refusal
 
+-- the other sessions of which a test on the number of the table that a name means holds
+abbrev pub others_on : (ℕ → PlainSession → Bool) → Asked → TableName → List ℕ
+others_on test asked name =
+    if_there (λ (table : PlainTable). others_with (test table.number) asked.store asked.session) (table_asked asked name)
+
 -- the sessions with an exclusive mark on the table of a name, which an exclusive mark cannot stand beside
 abbrev pub exclusive_holders : Asked → TableName → List ℕ
-exclusive_holders asked name = if_there (λ (table : PlainTable). others_with (has_exclusive_mark table.number) asked.store asked.session) (table_asked asked name)
+exclusive_holders asked name = others_on has_exclusive_mark asked name
 
 -- the sessions with any mark on it, under which it cannot go
 abbrev pub holders : Asked → TableName → List ℕ
-holders asked name = if_there (λ (table : PlainTable). others_with (has_mark table.number) asked.store asked.session) (table_asked asked name)
+holders asked name = others_on has_mark asked name
 
 abbrev pub change_holders : Asked → Dml → List ℕ
 change_holders asked (dml.Insert i) = []

@@ -20,8 +20,13 @@ AreApart ranges = AllPairs (λ (a b : KeyRange). overlap a b ≡ false) ranges
 abbrev pub IsClustered : List (List Row) → Plain → PlainTable → Type 0
 IsClustered contents store table = may_be_reclustered store table ≡ true → AreApart (table_ranges contents store.tally table)
 
--- at the moment of the last entry, as far as purges and rounds are carried out
-pub record IsSettled (carried : Carried) (program : Script) (history : List Entry) : Type 0 where
-  pub named : carried.purges ≡ true → doomed_at (store_after carried program history) ((store_after carried program history).moment) ≡ []
-  pub closed : carried.rounds ≡ true → (store_after carried program history).tally.round ≡ None
-  pub clustered : carried.rounds ≡ true → All (IsClustered (contents_of carried program history) (store_after carried program history)) (store_after carried program history).tables
+-- what holds of a store and the contents of its parts, as far as purges and rounds are carried out
+pub record IsSettledStore (carried : Carried) (contents : List (List Row)) (store : Plain) : Type 0 where
+  pub named : carried.purges ≡ true → doomed_at store store.moment ≡ []
+  pub closed : carried.rounds ≡ true → store.tally.round ≡ None
+  pub clustered : carried.rounds ≡ true → All (IsClustered contents store) store.tables
+
+-- at the moment of the last entry
+abbrev pub IsSettled : Carried → Script → List Entry → Type 0
+IsSettled carried program history =
+    IsSettledStore carried (contents_of carried program history) (store_after carried program history)
