@@ -2,5 +2,6 @@
 pub mod Complete
 pub mod Contents
 pub mod Replay
+pub mod Replies
 pub mod Step
 pub mod TrueFacts

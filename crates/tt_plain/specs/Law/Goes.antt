@@ -1,6 +1,6 @@
 -- Further laws: a legal history can be brought to its end, and the answer of a query that is not refused depends on the bag of the
 -- rows alone.
-use Rattle.std.specs.Prelude.{List, [], ◌++◌, ◌≡◌}
+use Rattle.std.specs.Prelude.{List, Option, Some, [], is_some, ◌++◌, ◌≡◌}
 use Rattle.tt_value.specs.declared.value.Row.{Row}
 use Rattle.tt_value.specs.BagRows.{bag_of}
 use Rattle.tt_value.specs.Scope.{Scope}
@@ -8,9 +8,13 @@ use Rattle.tt_script.specs.declared.script.Script.{Script}
 use Rattle.tt_sql.specs.declared.query.Query.{Query}
 use Rattle.tt_sql.specs.QueryMeaning.{answer_of}
 use Rattle.tt_history.specs.declared.history.Entry.{Entry}
+use Rattle.tt_history.specs.declared.reply.Reply.{Reply}
+use Rattle.tt_plain.specs.declared.store.Plain.{Plain}
 use Rattle.tt_plain.specs.Asked.Carried.{Carried}
 use Rattle.tt_plain.specs.History.Complete.{IsComplete}
 use Rattle.tt_plain.specs.History.Replay.{IsLegal}
+use Rattle.tt_plain.specs.History.Replies.{carries_reply}
+use Rattle.tt_plain.specs.History.Step.{step_of}
 use Rattle.tt_plain.specs.TypeMismatches.{misfit_in_query}
 use Rattle.tt_plain.specs.UnknownColumns.{unknown_in_query}
 
@@ -21,3 +25,8 @@ CanBeCompleted = (carried : Carried) (program : Script) (history : List Entry) �
 abbrev pub AnswersAreOfBags : Type 0
 AnswersAreOfBags = (scope : Scope) (q : Query) (rows others : List Row) → unknown_in_query scope q ≡ [] → misfit_in_query scope q ≡ [] →
     bag_of rows ≡ bag_of others → answer_of scope q rows ≡ answer_of scope q others
+
+-- an entry has a reply exactly where it ends a statement
+abbrev pub RepliesStandAtEnds : Type 0
+RepliesStandAtEnds = (carried : Carried) (program : Script) (store : Plain) (entry : Entry) (next : Plain × Option Reply) →
+    step_of carried program store entry ≡ Some next → is_some next.1 ≡ carries_reply carried program entry entry.actor

@@ -92,6 +92,7 @@ pub record IsSoundSession (store : Plain) (state : PlainSession) : Type 0 where
   pub marked : All (IsSoundMark store) state.marks
   pub running : IsSoundOpen (length store.tables) state.done state.running
   pub closed : state.transaction ≡ false → state.pending ≡ []
+  pub unmarked : state.transaction ≡ false → state.running ≡ None → state.marks ≡ []
 
 -- at most one session has an exclusive mark on a table
 abbrev pub HasOneHolder : Plain → ℕ → Type 0
