@@ -3,7 +3,7 @@ use Rattle.std.specs.Prelude.{Bool, Err, Ok, Option, Result, Some, if◌then◌e
 use Rattle.tt_script.specs.declared.script.Script.{Script}
 use Rattle.tt_script.specs.Program.{span_of, text_at}
 use Rattle.tt_sql.specs.declared.statement.Statement.{Statement}
-use Rattle.tt_sql.specs.StatementOf.{statement_of}
+use Rattle.tt_sql.specs.text.StatementOf.{statement_of}
 use Rattle.tt_plain.specs.declared.store.Plain.{Plain}
 use Rattle.tt_plain.specs.declared.store.PlainOpen.{PlainOpen}
 use Rattle.tt_plain.specs.declared.store.PlainSession.{PlainSession}

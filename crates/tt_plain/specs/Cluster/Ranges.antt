@@ -3,8 +3,8 @@ use Rattle.std.specs.Ordering.{is_lt}
 use Rattle.std.specs.Prelude.{Bool, List, Some, [], drop, filter, flat_map, fold, map, not, zip, ℕ, ◌&&◌, ◌++◌, ◌∷◌}
 use Rattle.tt_value.specs.declared.value.Row.{Row}
 use Rattle.tt_value.specs.declared.value.Value.{Value}
-use Rattle.tt_value.specs.Order.{value_cmp}
-use Rattle.tt_sql.specs.QueryMeaning.{best_of, greater, lesser, value_at}
+use Rattle.tt_value.specs.values.Order.{value_cmp}
+use Rattle.tt_sql.specs.meaning.Queries.{best_of, greater, lesser, value_at}
 use Rattle.tt_plain.specs.declared.ranges.KeyRange.{KeyRange}
 
 -- the key of a row is the value in the column of this place

@@ -1,6 +1,6 @@
 -- ALTER TABLE: what each change of a table is.
 use Rattle.std.specs.Prelude.{List, None, Option, Some, false, option_map, true}
-use Rattle.tt_value.specs.Scope.{column_place}
+use Rattle.tt_value.specs.trees.Scope.{column_place}
 use Rattle.tt_sql.specs.declared.table.Change.{Change}
 use Rattle.tt_plain.specs.declared.store.PlainTable.{PlainTable}
 use Rattle.tt_plain.specs.Asked.Asked.{Asked, table_asked}

@@ -5,11 +5,11 @@ use Rattle.tt_value.specs.declared.name.Number.{Number}
 use Rattle.tt_value.specs.declared.name.TableName.{TableName}
 use Rattle.tt_value.specs.declared.value.Column.{Column}
 use Rattle.tt_value.specs.declared.value.Schema.{Schema}
-use Rattle.tt_value.specs.Scope.{column_place}
+use Rattle.tt_value.specs.trees.Scope.{column_place}
 use Rattle.tt_retain.specs.Retention.{first_retention}
 use Rattle.tt_sql.specs.declared.table.ColumnDefinition.{ColumnDefinition}
 use Rattle.tt_sql.specs.declared.table.CreatedTable.{CreatedTable}
-use Rattle.tt_sql.specs.ChangeMeaning.{replaces}
+use Rattle.tt_sql.specs.meaning.Changes.{replaces}
 use Rattle.tt_plain.specs.declared.store.Plain.{Plain}
 use Rattle.tt_plain.specs.declared.store.PlainTable.{PlainTable}
 use Rattle.tt_plain.specs.Asked.Asked.{Asked, table_asked}

@@ -2,7 +2,7 @@
 use Rattle.std.specs.List.{list_all}
 use Rattle.std.specs.Prelude.{Bool, List, None, Option, Some, [], filter, if◌then◌else◌, length, nat_lt, unwrap_or, ℕ, ◌&&◌, ◌++◌, ◌+◌, ◌==◌, ◌∷◌}
 use Rattle.tt_value.specs.declared.value.Row.{Row}
-use Rattle.tt_value.specs.BagRows.{bag_plus}
+use Rattle.tt_value.specs.values.Bags.{bag_plus}
 use Rattle.tt_sql.specs.declared.change.Dml.{Dml}
 use Rattle.tt_history.specs.declared.history.Added.{Added}
 use Rattle.tt_history.specs.declared.reply.Reply.{Reply}

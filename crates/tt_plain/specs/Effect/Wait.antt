@@ -1,6 +1,6 @@
 -- A wait moves the clock: its entry has the next moment and its length on top.
 use Rattle.std.specs.Prelude.{None, Option, Some, ℕ, ◌+◌}
-use Rattle.tt_value.specs.Calendar.{milliseconds}
+use Rattle.tt_value.specs.calendar.Calendar.{milliseconds}
 use Rattle.tt_history.specs.declared.history.Told.{Told}
 use Rattle.tt_plain.specs.Answers.{◌>>=◌}
 use Rattle.tt_plain.specs.Asked.Asked.{Asked, request_asked}

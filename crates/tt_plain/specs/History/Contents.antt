@@ -2,14 +2,14 @@
 use Rattle.std.specs.Prelude.{List, None, Option, Some, [], drop, flat_map, fold, if◌then◌else◌, map, option_to_list, slice_get, take, unwrap_or, ℕ, ◌++◌, ◌-◌, ◌∷◌}
 use Rattle.tt_value.specs.declared.value.Row.{Row}
 use Rattle.tt_value.specs.declared.value.Schema.{Schema}
-use Rattle.tt_value.specs.PredicateMeaning.{takes}
-use Rattle.tt_value.specs.Scope.{Scope}
+use Rattle.tt_value.specs.trees.Predicates.{takes}
+use Rattle.tt_value.specs.trees.Scope.{Scope}
 use Rattle.tt_script.specs.declared.script.Script.{Script}
 use Rattle.tt_sql.specs.declared.change.Delete.{Delete}
 use Rattle.tt_sql.specs.declared.change.Dml.{Dml}
 use Rattle.tt_sql.specs.declared.change.Update.{Update}
-use Rattle.tt_sql.specs.ChangeMeaning.{updated_row}
-use Rattle.tt_sql.specs.Scopes.{target_scope}
+use Rattle.tt_sql.specs.meaning.Changes.{updated_row}
+use Rattle.tt_sql.specs.meaning.Scopes.{target_scope}
 use Rattle.tt_history.specs.declared.history.Actor.{Actor}
 use Rattle.tt_history.specs.declared.history.Added.{Added}
 use Rattle.tt_history.specs.declared.history.Entry.{Entry}

@@ -5,11 +5,11 @@ use Rattle.std.specs.Prelude.{All, Bool, List, None, Option, Some, [], filter, f
 use Rattle.tt_value.specs.declared.predicate.Predicate.{Predicate}
 use Rattle.tt_value.specs.declared.value.Row.{Row}
 use Rattle.tt_value.specs.declared.value.Schema.{Schema}
-use Rattle.tt_value.specs.PredicateMeaning.{takes}
-use Rattle.tt_value.specs.Scope.{Scope}
+use Rattle.tt_value.specs.trees.Predicates.{takes}
+use Rattle.tt_value.specs.trees.Scope.{Scope}
 use Rattle.tt_script.specs.declared.script.Script.{Script}
 use Rattle.tt_sql.specs.declared.change.Dml.{Dml}
-use Rattle.tt_sql.specs.Scopes.{target_scope}
+use Rattle.tt_sql.specs.meaning.Scopes.{target_scope}
 use Rattle.tt_history.specs.declared.history.Actor.{Actor}
 use Rattle.tt_history.specs.declared.history.Added.{Added}
 use Rattle.tt_history.specs.declared.history.Entry.{Entry}

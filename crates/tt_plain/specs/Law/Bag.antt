@@ -2,7 +2,7 @@
 use Rattle.std.specs.List.{AllZip, enumerate_from}
 use Rattle.std.specs.Prelude.{All, List, Some, filter, option_to_list, ℕ, ◌==◌, ◌≡◌, ◌≤◌}
 use Rattle.tt_value.specs.declared.value.Row.{Row}
-use Rattle.tt_value.specs.BagRows.{bag_of}
+use Rattle.tt_value.specs.values.Bags.{bag_of}
 use Rattle.tt_script.specs.declared.script.Script.{Script}
 use Rattle.tt_history.specs.declared.history.Entry.{Entry}
 use Rattle.tt_plain.specs.declared.store.Plain.{Plain}

@@ -1,7 +1,7 @@
 -- When a change keeps the store sound: a small condition for each, which each entry's effect has to meet.
 use Rattle.std.specs.Prelude.{All, List, None, Option, Some, [], false, filter, length, map, slice_get, true, ℕ, ⊤, ◌+◌, ◌-◌, ◌<◌, ◌∷◌, ◌≡◌, ◌≢◌, ◌≤◌}
 use Rattle.tt_value.specs.declared.value.Row.{Row}
-use Rattle.tt_value.specs.BagRows.{IsBag}
+use Rattle.tt_value.specs.values.Bags.{IsBag}
 use Rattle.tt_script.specs.declared.script.Script.{Script}
 use Rattle.tt_history.specs.declared.history.Entry.{Entry}
 use Rattle.tt_layout.specs.Numbers.{has}

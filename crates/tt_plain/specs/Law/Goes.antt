@@ -2,11 +2,11 @@
 -- rows alone.
 use Rattle.std.specs.Prelude.{List, Option, Some, [], is_some, ◌++◌, ◌≡◌}
 use Rattle.tt_value.specs.declared.value.Row.{Row}
-use Rattle.tt_value.specs.BagRows.{bag_of}
-use Rattle.tt_value.specs.Scope.{Scope}
+use Rattle.tt_value.specs.values.Bags.{bag_of}
+use Rattle.tt_value.specs.trees.Scope.{Scope}
 use Rattle.tt_script.specs.declared.script.Script.{Script}
 use Rattle.tt_sql.specs.declared.query.Query.{Query}
-use Rattle.tt_sql.specs.QueryMeaning.{answer_of}
+use Rattle.tt_sql.specs.meaning.Queries.{answer_of}
 use Rattle.tt_history.specs.declared.history.Entry.{Entry}
 use Rattle.tt_history.specs.declared.reply.Reply.{Reply}
 use Rattle.tt_plain.specs.declared.store.Plain.{Plain}

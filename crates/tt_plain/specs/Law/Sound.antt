@@ -1,7 +1,7 @@
 -- What holds of each store to which a legal history leads.
 use Rattle.std.specs.Prelude.{All, AllPairs, List, None, Option, Some, [], false, filter, length, option_to_list, true, ℕ, ⊤, ◌+◌, ◌<◌, ◌∷◌, ◌≡◌, ◌≢◌, ◌≤◌}
 use Rattle.tt_value.specs.declared.value.Schema.{Schema}
-use Rattle.tt_value.specs.BagRows.{IsBag, bag_minus, bag_plus}
+use Rattle.tt_value.specs.values.Bags.{IsBag, bag_minus, bag_plus}
 use Rattle.tt_retain.specs.Retention.{IsRetention, made_of}
 use Rattle.tt_script.specs.declared.script.Script.{Script}
 use Rattle.tt_history.specs.declared.history.Entry.{Entry}

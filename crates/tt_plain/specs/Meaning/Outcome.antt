@@ -6,9 +6,9 @@ use Rattle.tt_script.specs.declared.script.FileText.{FileText}
 use Rattle.tt_script.specs.declared.script.Script.{Script}
 use Rattle.tt_sql.specs.declared.change.Dml.{Dml}
 use Rattle.tt_sql.specs.declared.query.Query.{Query}
-use Rattle.tt_sql.specs.ChangeMeaning.{BadData, Changed, Changes, NullInRow, OutOfRange, delete_change, insert_change, update_change}
-use Rattle.tt_sql.specs.QueryMeaning.{answer_of}
-use Rattle.tt_sql.specs.Scopes.{query_scope}
+use Rattle.tt_sql.specs.meaning.Changes.{BadData, Changed, Changes, NullInRow, OutOfRange, delete_change, insert_change, update_change}
+use Rattle.tt_sql.specs.meaning.Queries.{answer_of}
+use Rattle.tt_sql.specs.meaning.Scopes.{query_scope}
 use Rattle.tt_history.specs.declared.reply.Refusal.{Refusal}
 use Rattle.tt_plain.specs.declared.store.Plain.{Plain}
 use Rattle.tt_plain.specs.declared.store.PlainOpen.{PlainOpen}

@@ -10,12 +10,12 @@ use Rattle.tt_value.specs.declared.value.Kind.{Kind}
 use Rattle.tt_value.specs.declared.value.Row.{Row}
 use Rattle.tt_value.specs.declared.value.Schema.{Schema}
 use Rattle.tt_value.specs.declared.value.Value.{Value}
-use Rattle.tt_value.specs.CalendarReading.{day_of, digits_value}
-use Rattle.tt_value.specs.ExpressionMeaning.{in_range}
-use Rattle.tt_value.specs.PredicateMeaning.{is_null}
-use Rattle.tt_value.specs.Scope.{value_or_null}
-use Rattle.tt_value.specs.TextValue.{is_control}
-use Rattle.tt_sql.specs.ChangeMeaning.{BadData, Changed, Changes, NullInRow}
+use Rattle.tt_value.specs.calendar.Reading.{day_of, digits_value}
+use Rattle.tt_value.specs.trees.Expressions.{in_range}
+use Rattle.tt_value.specs.trees.Predicates.{is_null}
+use Rattle.tt_value.specs.trees.Scope.{value_or_null}
+use Rattle.tt_value.specs.values.Texts.{is_control}
+use Rattle.tt_sql.specs.meaning.Changes.{BadData, Changed, Changes, NullInRow}
 use Rattle.tt_plain.specs.Meaning.Staged.{records_of}
 use Rattle.tt_value.specs.declared.value.Kind.TheVariants as kinds
 use Rattle.tt_value.specs.declared.value.Value.TheVariants as value

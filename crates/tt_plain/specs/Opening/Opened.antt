@@ -5,7 +5,7 @@ use Rattle.tt_value.specs.declared.value.Row.{Row}
 use Rattle.tt_sql.specs.declared.change.Dml.{Dml}
 use Rattle.tt_sql.specs.declared.query.Query.{Query}
 use Rattle.tt_sql.specs.declared.query.Source.{Source}
-use Rattle.tt_sql.specs.QueryMeaning.{all_some}
+use Rattle.tt_sql.specs.meaning.Queries.{all_some}
 use Rattle.tt_plain.specs.declared.store.PlainOpen.{PlainOpen}
 use Rattle.tt_plain.specs.declared.store.PlainSession.{PlainSession}
 use Rattle.tt_plain.specs.declared.store.PlainTable.{PlainTable}

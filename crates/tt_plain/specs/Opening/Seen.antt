@@ -1,7 +1,7 @@
 -- The rows that a statement sees of a table when it begins.
 use Rattle.std.specs.Prelude.{List, None, Option, Some, find, nat_abs, ℕ, ◌==◌}
 use Rattle.tt_value.specs.declared.value.Row.{Row}
-use Rattle.tt_value.specs.BagRows.{bag_minus, bag_plus}
+use Rattle.tt_value.specs.values.Bags.{bag_minus, bag_plus}
 use Rattle.tt_sql.specs.declared.query.Clause.{Clause}
 use Rattle.tt_sql.specs.declared.query.Source.{Source}
 use Rattle.tt_plain.specs.declared.store.PlainPending.{PlainPending}

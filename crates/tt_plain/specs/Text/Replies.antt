@@ -2,7 +2,7 @@
 use Rattle.std.specs.Fmt.{signed_decimal}
 use Rattle.std.specs.Prelude.{List, codes, decimal, flat_map, length, ℕ, ◌++◌}
 use Rattle.tt_value.specs.declared.value.Row.{Row}
-use Rattle.tt_value.specs.RowText.{row_text}
+use Rattle.tt_value.specs.values.RowText.{row_text}
 use Rattle.tt_script.specs.declared.script.Script.{Script}
 use Rattle.tt_history.specs.declared.reply.Refusal.{Refusal}
 use Rattle.tt_history.specs.declared.reply.Reply.{Reply}
