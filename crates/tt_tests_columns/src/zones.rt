@@ -90,16 +90,18 @@ fn zones_of<R: Abort + AllocGlobal>(rt: &R, rows: &[Row]) -> Result<Vec<Zone>, F
     Ok(zones)
 }
 
-/// The predicate that a condition is in a query's WHERE.
-fn predicate_of<R: Abort + AllocGlobal>(rt: &R, condition: &str) -> Result<Predicate, Fail> {
+/// A query with this condition.
+fn query_of<R: Abort + AllocGlobal>(rt: &R, condition: &str) -> Result<Statement, Fail> {
     let mut text = String::from_str(rt.alloc(), "SELECT * FROM t WHERE ")?;
     text.push_str(condition)?;
-    match statement_of(rt, text.as_str())? {
-        Statement::Query(query) => match query.filter {
-            Some(predicate) => Ok(predicate),
-            None => panic!(rt; "no condition: {condition}"),
-        },
-        _ => panic!(rt; "no query: {condition}"),
+    statement_of(rt, text.as_str())
+}
+
+/// The WHERE of a query, if it has one.
+fn filter_of(statement: &Statement) -> Option<&Predicate> {
+    match statement {
+        Statement::Query(query) => query.filter.as_ref(),
+        _ => None,
     }
 }
 
@@ -123,14 +125,17 @@ fn assert_possible<R: Abort + AllocGlobal>(
     let schema = schema(rt.alloc())?;
     let zones = zones_of(rt, &rows_of(rt, rows)?)?;
     for (condition, letters) in table {
-        let predicate = predicate_of(rt, condition)?;
+        let query = query_of(rt, condition)?;
+        let Some(predicate) = filter_of(&query) else {
+            panic!(rt; "no condition: {condition}");
+        };
         let wanted = set_of(letters);
         assert!(rt;
-            possible(&schema, &zones, &predicate) == wanted,
+            possible(&schema, &zones, predicate) == wanted,
             "in {condition}"
         );
         assert!(rt;
-            may(&schema, &zones, &predicate) == wanted.has_true,
+            may(&schema, &zones, predicate) == wanted.has_true,
             "in {condition}"
         );
     }

@@ -3,7 +3,10 @@ use Rattle.std.specs.Prelude.{◌≡◌, List, Option, None}
 use Rattle.std.specs.Option.{option_map, option_copied, unwrap_or}
 use Rattle.tt_value.specs.declared.value.Kind.{Kind}
 use Rattle.tt_value.specs.declared.value.Value.{Value}
+use Rattle.tt_value.specs.declared.value.Column.{Column}
+use Rattle.tt_value.specs.declared.name.ColumnName.{ColumnName}
 use Rattle.tt_value.specs.declared.predicate.Operand.{Operand}
+use Rattle.tt_value.specs.declared.predicate.Operand.TheVariants as operand
 use Rattle.tt_value.specs.declared.predicate.Comparison.{Comparison}
 use Rattle.tt_value.specs.declared.name.Literal.{Literal}
 use Rattle.tt_value.specs.trees.Scope.{Scope, kind_of, beside}
@@ -33,6 +36,13 @@ side_span other (side.Literal v) = value_span (beside other v.now)
 pub record IsSideOf (scope : Scope) (zones : List Zone) (operand : Operand) (s : Side) : Type 0 where
   pub kind : side_kind s ≡ operand_kind scope operand
   pub span : (other : Option Kind) → side_span other s ≡ operand_span scope zones other operand
+
+-- the same of a column
+abbrev pub IsColumnSide : Scope → List Zone → ColumnName → Side → Type 0
+IsColumnSide scope zones c s = IsSideOf scope zones (operand.Column c) s
+
+abbrev pub kind_of_column : Column → Kind
+kind_of_column column = column.kind
 
 -- the truth values of a comparison, each side being read beside the kind of the other
 abbrev pub sides_compared : Side → Comparison → Side → TruthSet

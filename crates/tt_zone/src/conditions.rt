@@ -8,18 +8,21 @@ use crate::sides::{Side, Span, read_beside, side_kind, span_of_side};
 use crate::truth_set::TruthSet;
 use tt_value::{Comparison, Text, Value, compare};
 
+#[inline(always)]
 fn is_below(a: &Value, b: &Value) -> bool
     ensures { result ≡ spec.is_below a.now b.now }
 {
     compare(a, b).is_lt()
 }
 
+#[inline(always)]
 fn is_at_most(a: &Value, b: &Value) -> bool
     ensures { result ≡ spec.is_at_most a.now b.now }
 {
     compare(a, b).is_le()
 }
 
+#[inline(always)]
 fn is_same(a: &Value, b: &Value) -> bool
     ensures { result ≡ spec.is_same a.now b.now }
 {
@@ -27,6 +30,7 @@ fn is_same(a: &Value, b: &Value) -> bool
 }
 
 /// True and false are left out where an operand has no values.
+#[inline(always)]
 fn without_values(unknown: bool) -> TruthSet
     ensures { result ≡ spec.truths_in None unknown }
 {
@@ -37,6 +41,7 @@ fn without_values(unknown: bool) -> TruthSet
     }
 }
 
+#[inline(always)]
 fn equal(left: &Span<'_>, right: &Span<'_>) -> TruthSet
     ensures { result ≡ spec.ranges_in spec.equal_in (span_of left.now) (span_of right.now) }
 {
@@ -56,6 +61,7 @@ fn equal(left: &Span<'_>, right: &Span<'_>) -> TruthSet
     }
 }
 
+#[inline(always)]
 fn less(left: &Span<'_>, right: &Span<'_>) -> TruthSet
     ensures { result ≡ spec.ranges_in spec.less_in (span_of left.now) (span_of right.now) }
 {
@@ -73,6 +79,7 @@ fn less(left: &Span<'_>, right: &Span<'_>) -> TruthSet
     }
 }
 
+#[inline(always)]
 fn at_most(left: &Span<'_>, right: &Span<'_>) -> TruthSet
     ensures { result ≡ spec.ranges_in spec.at_most_in (span_of left.now) (span_of right.now) }
 {
@@ -90,6 +97,7 @@ fn at_most(left: &Span<'_>, right: &Span<'_>) -> TruthSet
     }
 }
 
+#[inline(always)]
 fn compared(sign: Comparison, left: &Span<'_>, right: &Span<'_>) -> TruthSet
     ensures { result ≡ spec.compared_in sign (span_of left.now) (span_of right.now) }
 {
@@ -104,6 +112,7 @@ fn compared(sign: Comparison, left: &Span<'_>, right: &Span<'_>) -> TruthSet
 }
 
 /// The truth values of a comparison. Each side is read beside the kind of the other.
+#[inline(always)]
 pub fn comparison(left: &Side<'_>, sign: Comparison, right: &Side<'_>) -> TruthSet
     ensures { result ≡ sides_compared left.now sign right.now }
 {
@@ -115,6 +124,7 @@ pub fn comparison(left: &Side<'_>, sign: Comparison, right: &Side<'_>) -> TruthS
 }
 
 /// The truth values of IS NULL.
+#[inline(always)]
 pub fn null(span: &Span<'_>) -> TruthSet
     ensures { result ≡ spec.null_in (span_of span.now) }
 {

@@ -13,12 +13,14 @@ use crate::truth_set::TruthSet;
 use crate::zone::Zone;
 use tt_value::{Comparison, Conjunction, Literal, Operand, Predicate, Schema, Unit};
 
+#[inline(always)]
 fn negated_if(negated: bool, set: TruthSet) -> TruthSet
     ensures { result ≡ not_set_if negated set }
 {
     if negated { set.negated() } else { set }
 }
 
+#[inline(always)]
 fn in_comparison(
     schema: &Schema,
     zones: &[Zone],
@@ -37,6 +39,7 @@ fn in_comparison(
 }
 
 /// The same with a literal on the right, where the left side is known.
+#[inline(always)]
 fn beside_literal(left: &Side<'_>, sign: Comparison, right: &Literal) -> TruthSet
     ensures { result ≡ literal_compared left.now sign right.now }
 {

@@ -1,10 +1,10 @@
 //! The operands of a condition: what each of them may be on a row of a partition.
 
-ghost use Rattle.std.specs.Prelude.{◌≡◌, Some};
-ghost use Rattle.std.specs.Option.{option_copied};
-ghost use Rattle.tt_value.specs.trees.Scope.{table_scope, column_kind};
+ghost use Rattle.std.specs.Prelude.{◌≡◌, Some, slice_get};
+ghost use Rattle.std.specs.Option.{option_copied, option_map};
+ghost use Rattle.tt_value.specs.trees.Scope.{table_scope};
 ghost use Rattle.tt_zone.specs.Possible.{zone_span, zone_named, value_span};
-ghost use Rattle.tt_zone.specs.Sides.{side_kind as kind_of_side, span_read, side_span, IsSideOf, span_of};
+ghost use Rattle.tt_zone.specs.Sides.{side_kind as kind_of_side, span_read, side_span, IsSideOf, IsColumnSide, kind_of_column, span_of};
 
 use crate::days::day_in;
 use crate::zone::Zone;
@@ -32,6 +32,7 @@ pub enum Side<'a> {
 }
 
 /// The place among the columns, from 0; none where no column has the name.
+#[inline(always)]
 fn place_of(schema: &Schema, column: &ColumnName) -> Option<usize>
     ensures { result ≡ (table_scope schema.now).place_of column.now }
 {
@@ -42,37 +43,57 @@ fn place_of(schema: &Schema, column: &ColumnName) -> Option<usize>
         .position(|known| known.name == column.name.text)
 }
 
-fn kind_of(schema: &Schema, column: &ColumnName) -> Option<Kind>
-    ensures { result ≡ column_kind (table_scope schema.now) column.now }
+#[inline(always)]
+fn kind_at(schema: &Schema, place: usize) -> Option<Kind>
+    ensures { result ≡ option_map kind_of_column (slice_get schema.now.columns place) }
 {
-    let place = place_of(schema, column)?;
-    let known = schema.columns.get(place)?;
-    Some(known.kind)
+    match schema.columns.get(place) {
+        None => None,
+        Some(known) => Some(known.kind),
+    }
+}
+
+#[inline(always)]
+fn zone_at(zones: &[Zone], place: usize) -> Option<&Zone>
+    ensures { option_copied result ≡ slice_get zones.now place }
+{
+    zones.get(place)
 }
 
 /// The zone of the column of this name, if there are both.
+#[inline(always)]
 pub fn zone_of<'a>(schema: &Schema, zones: &'a [Zone], column: &ColumnName) -> Option<&'a Zone>
     ensures { option_copied result ≡ zone_named (table_scope schema.now) zones.now column.now }
 {
     match place_of(schema, column) {
         None => None,
-        Some(place) => zones.get(place),
+        Some(place) => zone_at(zones, place),
+    }
+}
+
+#[inline(always)]
+fn side_of_column<'a>(schema: &Schema, zones: &'a [Zone], column: &ColumnName) -> Side<'a>
+    ensures { IsColumnSide (table_scope schema.now) zones.now column.now result }
+{
+    match place_of(schema, column) {
+        None => Side::Column(None, None),
+        Some(place) => Side::Column(kind_at(schema, place), zone_at(zones, place)),
     }
 }
 
 /// What the schema and the zones say of an operand.
+#[inline(always)]
 pub fn side_of<'a>(schema: &Schema, zones: &'a [Zone], operand: &'a Operand) -> Side<'a>
     ensures { IsSideOf (table_scope schema.now) zones.now operand.now result }
 {
     match operand {
-        Operand::Column(column) => {
-            Side::Column(kind_of(schema, column), zone_of(schema, zones, column))
-        }
+        Operand::Column(column) => side_of_column(schema, zones, column),
         Operand::Literal(literal) => Side::Literal(&literal.value),
     }
 }
 
 /// The kind of an operand; NULL has none.
+#[inline(always)]
 pub fn side_kind(side: &Side<'_>) -> Option<Kind>
     ensures { result ≡ kind_of_side side.now }
 {
@@ -86,6 +107,7 @@ pub fn side_kind(side: &Side<'_>) -> Option<Kind>
 }
 
 /// The date that a text in quotes is beside a DATE; none where it stands for itself.
+#[inline(always)]
 pub fn read_beside(other: Option<Kind>, side: &Side<'_>) -> Option<Value>
     ensures { span_read result side.now ≡ side_span other side.now }
 {
@@ -100,6 +122,7 @@ pub fn read_beside(other: Option<Kind>, side: &Side<'_>) -> Option<Value>
     }
 }
 
+#[inline(always)]
 fn span_of_zone(zone: &Zone) -> Span<'_>
     ensures { span_of result ≡ zone_span (Some zone.now) }
 {
@@ -122,6 +145,7 @@ fn span_of_zone(zone: &Zone) -> Span<'_>
 }
 
 /// What a column with this zone may be; a column without one is NULL.
+#[inline(always)]
 pub fn span_of_column(zone: Option<&Zone>) -> Span<'_>
     ensures { span_of result ≡ zone_span (option_copied zone.entry) }
 {
@@ -134,6 +158,7 @@ pub fn span_of_column(zone: Option<&Zone>) -> Span<'_>
     }
 }
 
+#[inline(always)]
 fn span_of_value(value: &Value) -> Span<'_>
     ensures { span_of result ≡ value_span value.now }
 {
@@ -153,6 +178,7 @@ fn span_of_value(value: &Value) -> Span<'_>
 }
 
 /// What an operand may be, where a text in quotes is this value, if there is one.
+#[inline(always)]
 pub fn span_of_side<'a, 'b: 'a>(side: &'a Side<'b>, read: &'a Option<Value>) -> Span<'a>
     ensures { span_of result ≡ span_read read.now side.now }
 {

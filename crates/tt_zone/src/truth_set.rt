@@ -14,6 +14,7 @@ impl TruthSet {
     ghost use Rattle.tt_zone.specs.TruthSets as sets;
 
     /// Whether it has no truth value.
+    #[inline(always)]
     fn is_empty(self) -> bool
         ensures { result ≡ sets.is_empty_set self }
     {
@@ -21,6 +22,7 @@ impl TruthSet {
     }
 
     /// Each truth value through NOT.
+    #[inline(always)]
     pub fn negated(self) -> TruthSet
         ensures { result ≡ sets.not_set self }
     {
@@ -32,6 +34,7 @@ impl TruthSet {
     }
 
     /// Each truth value with each of the other set, through AND.
+    #[inline(always)]
     pub fn and(self, other: TruthSet) -> TruthSet
         ensures { result ≡ sets.and_set self other }
     {
@@ -44,6 +47,7 @@ impl TruthSet {
     }
 
     /// Each truth value with each of the other set, through OR.
+    #[inline(always)]
     pub fn or(self, other: TruthSet) -> TruthSet
         ensures { result ≡ sets.or_set self other }
     {
