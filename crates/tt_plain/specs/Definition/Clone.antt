@@ -8,7 +8,6 @@ use Rattle.tt_plain.specs.Answers.{◌>>=◌}
 use Rattle.tt_plain.specs.Asked.Asked.{Asked, table_asked}
 use Rattle.tt_plain.specs.Definition.Create.{DefinitionChanges, next_number, replaced}
 use Rattle.tt_plain.specs.Effect.Effect.{Made}
-use Rattle.tt_plain.specs.Effect.Start.{begun}
 use Rattle.tt_plain.specs.Opening.Seen.{rows_seen}
 use Rattle.tt_plain.specs.Refusal.RetentionRange.{is_transient}
 use Rattle.tt_plain.specs.Tally.Changes.{MakesTable}

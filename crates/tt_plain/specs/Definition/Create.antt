@@ -14,7 +14,6 @@ use Rattle.tt_plain.specs.declared.store.Plain.{Plain}
 use Rattle.tt_plain.specs.declared.store.PlainTable.{PlainTable}
 use Rattle.tt_plain.specs.Asked.Asked.{Asked, table_asked}
 use Rattle.tt_plain.specs.Effect.Effect.{Dropped, Made, TableChange}
-use Rattle.tt_plain.specs.Effect.Start.{begun}
 use Rattle.tt_plain.specs.Refusal.RetentionRange.{is_transient}
 use Rattle.tt_plain.specs.Tally.Changes.{MakesTable, TallyChange}
 

@@ -6,7 +6,6 @@ use Rattle.tt_plain.specs.declared.store.Plain.{Plain}
 use Rattle.tt_plain.specs.declared.store.PlainSession.{PlainSession}
 use Rattle.tt_plain.specs.declared.store.PlainTable.{PlainTable}
 use Rattle.tt_plain.specs.Effect.Effect.{Dropped, Effect, Made, NewKey, NewRegime, NewVersion, Renamed, Suspended, TableChange, Undropped}
-use Rattle.tt_plain.specs.Effect.Start.{begun}
 use Rattle.tt_plain.specs.Tally.Changes.{changed_tally}
 
 -- the table of a number changed

@@ -82,8 +82,8 @@ unfoldable pub kept : Asked → PlainPending → ℕ → EntryFacts → Reply �
 kept asked pending table facts reply =
     record (session_effect asked (record (session_done asked) { pending = with_pending pending (state_asked asked).pending }) [] (Some reply)) {
       tally =
-        AddsParts table facts.1 ∷ Keeps (lists_after asked.store.tally asked.session table facts.0 (numbers_added facts.1))
-        ∷ Unpins asked.session ∷ [];
+          AddsParts table facts.1 ∷ Keeps (lists_after asked.store.tally asked.session table facts.0 (numbers_added facts.1))
+          ∷ Unpins asked.session ∷ [];
     }
 
 -- Outside a transaction the change is committed at once, and its mark ends.
@@ -92,8 +92,8 @@ committed_alone asked pending table facts reply =
     record (session_effect asked (record (session_done asked) { marks = [] }) (own_point_now asked) (Some reply)) {
       tables = version_committed asked.store asked.moment pending;
       tally =
-        AddsParts table facts.1 ∷ layout_begun asked.store.tally asked.moment table facts.0 (numbers_added facts.1)
-        ++ Unpins asked.session ∷ [];
+          AddsParts table facts.1 ∷ layout_begun asked.store.tally asked.moment table facts.0 (numbers_added facts.1)
+          ++ Unpins asked.session ∷ [];
     }
 
 abbrev pub changed_by : Asked → Dml → ℕ → (removed added : List Row) → ℕ → EntryFacts → Effect

@@ -16,9 +16,7 @@ use Rattle.tt_plain.specs.Effect.Effect.{Dropped, Effect, Made, NewKey, NewRegim
 use Rattle.tt_plain.specs.Effect.Start.{begun}
 use Rattle.tt_plain.specs.History.Replay.{after}
 use Rattle.tt_plain.specs.History.Step.{effect_of}
-use Rattle.tt_plain.specs.Kinds.{fits}
 use Rattle.tt_plain.specs.Law.Sound.{AreStored, FollowFrom, HasOneHolder, HaveOwnNames, IsKeyOf, IsSound, IsSoundSession, IsSoundTable}
-use Rattle.tt_plain.specs.Refusal.LockHeld.{holders}
 use Rattle.tt_plain.specs.Stored.Tables.{is_live}
 use Rattle.tt_plain.specs.Tally.Changes.{AddsParts, BeginsLayout, EndsPending, EndsRound, Keeps, MakesTable, Pins, StartsRound, TakesAway, TallyChange, Unpins, changed_tally}
 use Rattle.tt_plain.specs.Tally.Facts.{pinned_parts}

@@ -20,9 +20,7 @@ use Rattle.tt_plain.specs.declared.tally.TallyPin.{TallyPin}
 use Rattle.tt_plain.specs.Asked.Carried.{Carried}
 use Rattle.tt_plain.specs.Effect.Start.{begun}
 use Rattle.tt_plain.specs.History.Replay.{Run, replay_of}
-use Rattle.tt_plain.specs.Places.{each}
 use Rattle.tt_plain.specs.Refusal.ClockEnd.{last_moment}
-use Rattle.tt_plain.specs.Refusal.LockHeld.{holders}
 use Rattle.tt_plain.specs.Stored.Points.{query_ids}
 use Rattle.tt_plain.specs.Stored.Sessions.{has_exclusive_mark, sessions_with}
 use Rattle.tt_plain.specs.Stored.Tables.{current_rows, is_live, table_numbered}

@@ -6,7 +6,6 @@ use Rattle.tt_script.specs.declared.script.Turn.{Turn}
 use Rattle.tt_history.specs.declared.history.Entry.{Entry}
 use Rattle.tt_plain.specs.Answers.{◌>>=◌}
 use Rattle.tt_plain.specs.Asked.Carried.{Carried}
-use Rattle.tt_plain.specs.Effect.End.{kept}
 use Rattle.tt_plain.specs.Serial.Walk.{Walk, turn_taken}
 use Rattle.tt_plain.specs.Stored.Empty.{empty_store}
 use Rattle.tt_script.specs.declared.script.Turn.TheVariants as turn
