@@ -1,7 +1,8 @@
 -- What the calls do to the names.
-use Rattle.std.specs.Prelude.{◌≡◌, ℕ, ◌==◌, not, Bool, List, [], ◌∷◌, filter, Option, None, Some, unwrap_or, Contains, map}
+use Rattle.std.specs.Prelude.{ℕ, List, ◌∷◌, Option, None, Some, unwrap_or}
 use Rattle.std.specs.FinMap as finite
-use Rattle.tt_names.specs.Registry.{Registry, ByName, Drops, live_of, dropped_of}
+use Rattle.tt_names.specs.ByName.{put_drops, without_table}
+use Rattle.tt_names.specs.Registry.{Registry, live_of, dropped_of}
 
 -- the live table of a name that has one
 abbrev pub table_of : List ℕ → Registry → ℕ
@@ -15,44 +16,37 @@ bound name table names = record names { live = finite.insert names.live name tab
 abbrev pub freed : List ℕ → Registry → Registry
 freed name names = record names { live = finite.remove names.live name }
 
-abbrev pub put_drops : List ℕ → Drops → ByName Drops → ByName Drops
-put_drops name [] all = finite.remove all name
-put_drops name (drop ∷ drops) all = finite.insert all name (drop ∷ drops)
-
--- the name has these drops
-abbrev pub with_drops : List ℕ → Drops → Registry → Registry
-with_drops name drops names = record names { drops = put_drops name drops names.drops }
-
--- one more drop under the name, which is the last
+-- one more table was dropped under the name, as the last
 abbrev pub with_drop : List ℕ → ℕ → ℕ → Registry → Registry
-with_drop name table moment names = with_drops name ((table, moment) ∷ dropped_of name names) names
+with_drop name table moment names =
+    record names { drops = put_drops name ((table, moment) ∷ dropped_of name names) names.drops }
 
--- the live table of the name is dropped, where there is one
+-- the table is no longer among those dropped under the name
+abbrev pub without_drop : List ℕ → ℕ → Registry → Registry
+without_drop name table names =
+    let drops = without_table table (dropped_of name names) in
+    record names { drops = put_drops name drops names.drops }
+
+-- the live table of the name, where there is one, is dropped at the moment
 abbrev pub unbound : List ℕ → ℕ → Registry → Registry
 unbound name moment names = drop_live (live_of name names) where
   drop_live : Option ℕ → Registry
   drop_live None = names
-  drop_live (Some table) = with_drop name table moment (freed name names)
+  drop_live (Some table) = freed name (with_drop name table moment names)
 
--- the live table of one name has another, and nothing is dropped
+-- the live table of one name has another instead, and nothing is dropped
 abbrev pub renamed : List ℕ → List ℕ → Registry → Registry
-renamed old new names = bound new (table_of old names) (freed old names)
+renamed old new names = freed old (bound new (table_of old names) names)
 
--- the live table of the name is dropped, and the name goes to another
+-- the live table of the name is dropped at the moment, and the name goes to another
 abbrev pub replaced : List ℕ → ℕ → ℕ → Registry → Registry
-replaced name table moment names = bound name table (with_drop name (table_of name names) moment names)
+replaced name table moment names =
+    bound name table (with_drop name (table_of name names) moment names)
 
 -- two names have exchanged their live tables
 abbrev pub swapped : List ℕ → List ℕ → Registry → Registry
 swapped a b names = bound b (table_of a names) (bound a (table_of b names) names)
 
-abbrev pub without_table : ℕ → Drops → Drops
-without_table table drops = filter (λ drop. not (drop.0 == table)) drops
-
--- a dropped table of the name is its live one again
+-- a table that was dropped under the name is its live one again
 abbrev pub undropped : List ℕ → ℕ → Registry → Registry
-undropped name table names = bound name table (with_drops name (without_table table (dropped_of name names)) names)
-
--- the table was dropped under the name and not brought back
-abbrev pub IsDropped : List ℕ → ℕ → Registry → Type 0
-IsDropped name table names = Contains (map (λ drop. drop.0) (dropped_of name names)) table
+undropped name table names = bound name table (without_drop name table names)

@@ -1,3 +1,4 @@
+pub mod ByName
 pub mod Changes
 pub mod Registry
 pub mod RegistryCode
