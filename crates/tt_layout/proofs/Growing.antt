@@ -1,8 +1,8 @@
 -- A chain with one more piece, and with its last piece taken back.
-use Rattle.std.proofs.Common.{◌≡◌, ℕ, ◌<◌, ◌≤◌, List, [], ◌∷◌, ◌++◌, length, refl, ap, sym, subst, ◌∙◌, arith, length-append}
+use Rattle.std.proofs.Common.{◌≡◌, ℕ, ◌<◌, ◌≤◌, List, [], ◌∷◌, ◌++◌, length, refl, ap, sym, subst, ◌∙◌, arith, length-append, Option, Some, unwrap_or, option_map}
 use Rattle.tt_layout.specs.declared.piece.Piece.{Piece}
 use Rattle.tt_layout.specs.Numbers.{IsAscending, HasAll, HasNone, changed}
-use Rattle.tt_layout.specs.Chain.{without_last, current_of, last_begun, with_change, FollowFrom, AreLayouts, IsChain, piece_at, piece_given, pieces_of, numbers_of, layouts_from}
+use Rattle.tt_layout.specs.Chain.{last_of, without_last, current_of, last_begun, with_change, FollowFrom, AreLayouts, IsChain, piece_at, piece_given, pieces_of, numbers_of, layouts_from}
 use Rattle.tt_layout.proofs.Ascending.{ascends-changed}
 use Rattle.tt_layout.proofs.ChainLaws.{tail_numbers, current_is, last_begun_is, current_ascends, length-layouts, layouts-more, pieces-more, follow-more, given_is, numbers_again}
 
@@ -126,3 +126,21 @@ pub some_left : (ps qs : List (ℕ × Piece)) (p : ℕ × Piece) → ps ≡ qs +
 some_left ps qs p e h =
     let total : length ps ≡ length (qs ++ p ∷ []) = ap length e in
     omega (arith, length-layouts [] ps, total, length-append qs (p ∷ []))
+
+-- ---- what callers read of the last layout
+
+last_of-more : {X : Type 0} (xs : List X) (x : X) → last_of (xs ++ x ∷ []) ≡ Some x
+last_of-more [] x = refl
+last_of-more (y ∷ []) x = refl
+last_of-more (y ∷ z ∷ zs) x = last_of-more (z ∷ zs) x
+
+pub current-with_change : (ls : List (ℕ × List ℕ)) (begun : ℕ) (gone added : List ℕ)
+    → current_of (with_change ls begun gone added) ≡ changed (current_of ls) gone added
+current-with_change ls begun gone added =
+    ap (λ (o : Option (ℕ × List ℕ)). unwrap_or (option_map (λ (l : ℕ × List ℕ). l.1) o) [])
+    (last_of-more ls (begun, changed (current_of ls) gone added))
+
+pub begun-with_change : (ls : List (ℕ × List ℕ)) (begun : ℕ) (gone added : List ℕ) → last_begun (with_change ls begun gone added) ≡ begun
+begun-with_change ls begun gone added =
+    ap (λ (o : Option (ℕ × List ℕ)). unwrap_or (option_map (λ (l : ℕ × List ℕ). l.0) o) 0)
+    (last_of-more ls (begun, changed (current_of ls) gone added))
