@@ -1,2 +1,4 @@
 pub mod Entries
+pub mod KeptRows
 pub mod Projection
+pub mod Refusals

@@ -2,7 +2,9 @@
 #![tactic(auto)]
 
 pub mod history;
+pub mod refusals;
 pub mod reply;
 
 pub use history::{Actor, Added, Entry, EntryKind, History, Miss, Told};
-pub use reply::{Refusal, Reply, SharedBag};
+pub use refusals::{Content, RefusalLine};
+pub use reply::{Refusal, Reply, SharedBag, SharedRows};

@@ -6,7 +6,7 @@ ghost use Rattle.tt_value.specs.values.RowText.{IsPrintable};
 use std::alloc::{AllocError, Global};
 use std::marker::Model;
 use std::sync::Arc;
-use tt_value::{Bag, Row};
+use tt_value::{Bag, Row, Sequence};
 
 /// Why a statement was not carried out, in the order of the refusals' numbers, which go from 1. Where
 /// nothing else is said the content is a place, a byte offset from the statement's first token.
@@ -48,8 +48,21 @@ pub struct SharedBag {
     bag: Arc<Bag>,
 }
 
-/// What a statement answers. The rows of a query come in the order of its answer. They stand in a bag, which
-/// is sorted: that is this order as long as no ORDER BY is carried out.
+// Where the rows of an answer stand. A bag has them in ascending order, and a list in any.
+#[derive(Drop)]
+enum Kept {
+    Bag(Arc<Bag>),
+    List(Arc<Sequence<Row>>),
+}
+
+/// Rows in an order of their own, each of which can be written, that several owners share. Contracts see the
+/// list of them.
+#[derive(Drop)]
+pub struct SharedRows {
+    kept: Kept,
+}
+
+/// What a statement answers. The rows of a query come in the order of its answer.
 #[derive(Drop)]
 pub enum Reply {
     Ok,
@@ -57,7 +70,7 @@ pub enum Reply {
     Inserted(u64),
     Updated(u64),
     Deleted(u64),
-    Rows(SharedBag),
+    Rows(SharedRows),
     Refused(Refusal),
     Memory,
 }
@@ -102,5 +115,51 @@ impl SharedBag {
         ensures printable { All IsPrintable self.now }
     {
         &self.bag
+    }
+
+    /// The bag's rows in ascending order, as those of an answer. No row is copied.
+    pub fn in_order(&self) -> Result<SharedRows, AllocError>
+        ensures { IfOk result (λ rows. rows ≡ self.now) }
+    {
+        Ok(SharedRows {
+            kept: Kept::Bag(Arc::try_clone(&self.bag)?),
+        })
+    }
+}
+
+impl Model for SharedRows {
+    ghost use Rattle.std.specs.Prelude.{List, All};
+    ghost use Rattle.tt_value.specs.declared.value.Row.{Row};
+    ghost use Rattle.tt_value.specs.values.RowText.{IsPrintable};
+    ghost use Rattle.tt_history.specs.KeptRows.{rows_of};
+
+    ghost Value = { List Row };
+
+    ghost view = { λ s. rows_of s.kept };
+
+    ghost invariant = { λ s. All IsPrintable (rows_of s.kept) };
+}
+
+impl SharedRows {
+    /// The rows in this order, with their first owner. Where no memory is found they are dropped.
+    pub fn new(alloc: Global, rows: Vec<Row>) -> Result<SharedRows, AllocError>
+        requires { All IsPrintable rows.items }
+        ensures { IfOk result (λ shared. shared ≡ rows.items) }
+    {
+        let rows = Arc::new(alloc, Sequence::from_vec(rows))?;
+        Ok(SharedRows {
+            kept: Kept::List(rows),
+        })
+    }
+
+    /// The rows that all owners have in common, lent for reading, in the order of the answer.
+    pub fn rows(&self) -> &[Row]
+        ensures value { result.now ≡ self.now }
+        ensures printable { All IsPrintable self.now }
+    {
+        match &self.kept {
+            Kept::Bag(bag) => bag.rows(),
+            Kept::List(rows) => rows.items(),
+        }
     }
 }

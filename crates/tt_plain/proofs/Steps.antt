@@ -18,7 +18,8 @@ use Rattle.tt_plain.specs.Statements.{is_definition, is_started}
 use Rattle.tt_plain.specs.Store.{next_statement, open_statement, with_ended, with_opened}
 use Rattle.tt_plain.specs.InsertRows.{added_to, with_commit}
 use Rattle.tt_plain.specs.SelectRows.{query_answer}
-use Rattle.tt_plain.specs.Refusals.{refusal_in, refusal_of, refusal_number, opened_of}
+use Rattle.tt_history.specs.Refusals.{refusal_number}
+use Rattle.tt_plain.specs.Refusals.{refusal_in, refusal_of, opened_of}
 use Rattle.tt_plain.specs.StartEntry.{start_step}
 use Rattle.tt_plain.specs.EndEntry.{end_step}
 use Rattle.tt_plain.specs.AbandonEntry.{abandon_step}

@@ -27,7 +27,8 @@ use Rattle.tt_plain.proofs.Turns.{next_is, open_is}
 use Rattle.tt_plain.specs.CreateTable.{with_table}
 use Rattle.tt_plain.specs.InsertRows.{added_to, with_commit}
 use Rattle.tt_plain.specs.SelectRows.{query_answer}
-use Rattle.tt_plain.specs.Refusals.{refusal_of, refusal_number, opened_of}
+use Rattle.tt_history.specs.Refusals.{refusal_number}
+use Rattle.tt_plain.specs.Refusals.{refusal_of, opened_of}
 use Rattle.tt_plain.specs.StartEntry.{start_step, start_told}
 use Rattle.tt_plain.specs.EndEntry.{end_step, ended}
 use Rattle.tt_plain.specs.AbandonEntry.{abandon_step}

@@ -11,7 +11,8 @@ use Rattle.tt_plain.specs.declared.plain.Plain.{Plain}
 use Rattle.tt_plain.specs.Answers.{◌>>=◌, only_if}
 use Rattle.tt_plain.specs.Statements.{is_definition}
 use Rattle.tt_plain.specs.Store.{next_statement, with_ended}
-use Rattle.tt_plain.specs.Refusals.{refusal_of, refusal_number}
+use Rattle.tt_history.specs.Refusals.{refusal_number}
+use Rattle.tt_plain.specs.Refusals.{refusal_of}
 use Rattle.tt_plain.specs.CreateTable.{with_table}
 
 -- the store with what the statement defines; no other statement defines anything

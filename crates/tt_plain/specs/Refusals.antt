@@ -17,31 +17,6 @@ use Rattle.tt_plain.specs.TypingRefusal.{or_else, typing_refusal}
 use Rattle.tt_plain.specs.InsertRows.{insert_open}
 use Rattle.tt_plain.specs.SelectRows.{query_open}
 
--- the number by which a refusal is known
-abbrev pub refusal_number : Refusal → ℕ
-refusal_number (refusal.Syntax place) = 1
-refusal_number (refusal.UnknownTable place) = 2
-refusal_number (refusal.TableExists place) = 3
-refusal_number (refusal.UnknownColumn place) = 4
-refusal_number (refusal.WrongCount place) = 5
-refusal_number (refusal.TypeMismatch place) = 6
-refusal_number (refusal.NullInNotNull place) = 7
-refusal_number (refusal.RetentionRange place) = 8
-refusal_number (refusal.KindMismatch place) = 9
-refusal_number (refusal.UnknownFile place) = 10
-refusal_number refusal.InFuture = 11
-refusal_number refusal.UnknownStatement = 12
-refusal_number refusal.StatementOpen = 13
-refusal_number (refusal.NotYetMade made) = 14
-refusal_number (refusal.OutsideRetention horizon) = 15
-refusal_number refusal.NothingToUndrop = 16
-refusal_number (refusal.LockHeld session) = 17
-refusal_number refusal.ClockEnd = 18
-refusal_number refusal.InTransaction = 19
-refusal_number (refusal.BadData record_number column) = 20
-refusal_number refusal.OutOfRange = 21
-refusal_number (refusal.NullInRow column) = 22
-
 -- why a statement is refused over these tables
 unfoldable pub refusal_over : List PlainTable → Statement → Option Refusal
 refusal_over tables s =

@@ -10,7 +10,8 @@ use Rattle.tt_plain.specs.declared.plain.Plain.{Plain}
 use Rattle.tt_plain.specs.Answers.{◌>>=◌, only_if}
 use Rattle.tt_plain.specs.Statements.{is_started}
 use Rattle.tt_plain.specs.Store.{next_statement, with_ended, with_opened}
-use Rattle.tt_plain.specs.Refusals.{refusal_of, refusal_number, opened_of}
+use Rattle.tt_history.specs.Refusals.{refusal_number}
+use Rattle.tt_plain.specs.Refusals.{refusal_of, opened_of}
 
 abbrev pub start_told : Script → Plain → ℕ → ℕ → ℕ → Result Statement ℕ → Told → Option (Plain × Option Reply)
 start_told program store moment session index read told.Done = do

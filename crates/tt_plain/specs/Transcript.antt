@@ -19,7 +19,9 @@ use Rattle.tt_history.specs.declared.history.Actor.TheVariants as actor
 use Rattle.tt_history.specs.declared.reply.Reply.{Reply}
 use Rattle.tt_history.specs.declared.reply.Reply.TheVariants as reply
 use Rattle.tt_history.specs.declared.reply.Refusal.{Refusal}
-use Rattle.tt_history.specs.declared.reply.Refusal.TheVariants as refusal
+use Rattle.tt_history.specs.declared.refusals.Content.{Content}
+use Rattle.tt_history.specs.declared.refusals.Content.TheVariants as content
+use Rattle.tt_history.specs.Refusals.{refusal_number, refusal_name, refusal_content}
 use Rattle.tt_plain.specs.Replay.{Run, replay_of}
 
 abbrev pub line_feed : List ℕ
@@ -79,30 +81,17 @@ kind_text program kind.Close = codes "close"
 unfoldable pub journal_line : Script → Entry → List ℕ
 journal_line program entry = codes "@" ++ decimal entry.moment ++ codes " " ++ actor_text program entry.actor ++ codes " " ++ decimal entry.index ++ codes " " ++ kind_text program entry.kind ++ line_feed
 
--- number, name and contents; a session is written by its name
+-- behind the name of a refusal; a session is written by its name
+abbrev pub content_text : Script → Content → List ℕ
+content_text program content.Nothing = []
+content_text program (content.Number number) = codes " " ++ decimal number
+content_text program (content.Signed number) = codes " " ++ signed_decimal number
+content_text program (content.Session session) = codes " " ++ name_of (slice_get program.sessions session)
+content_text program (content.Pair first second) = codes " " ++ decimal first ++ codes " " ++ decimal second
+
+-- number, name and content
 abbrev pub refusal_text : Script → Refusal → List ℕ
-refusal_text program (refusal.Syntax place) = codes "1 Syntax " ++ decimal place
-refusal_text program (refusal.UnknownTable place) = codes "2 UnknownTable " ++ decimal place
-refusal_text program (refusal.TableExists place) = codes "3 TableExists " ++ decimal place
-refusal_text program (refusal.UnknownColumn place) = codes "4 UnknownColumn " ++ decimal place
-refusal_text program (refusal.WrongCount place) = codes "5 WrongCount " ++ decimal place
-refusal_text program (refusal.TypeMismatch place) = codes "6 TypeMismatch " ++ decimal place
-refusal_text program (refusal.NullInNotNull place) = codes "7 NullInNotNull " ++ decimal place
-refusal_text program (refusal.RetentionRange place) = codes "8 RetentionRange " ++ decimal place
-refusal_text program (refusal.KindMismatch place) = codes "9 KindMismatch " ++ decimal place
-refusal_text program (refusal.UnknownFile place) = codes "10 UnknownFile " ++ decimal place
-refusal_text program refusal.InFuture = codes "11 InFuture"
-refusal_text program refusal.UnknownStatement = codes "12 UnknownStatement"
-refusal_text program refusal.StatementOpen = codes "13 StatementOpen"
-refusal_text program (refusal.NotYetMade made) = codes "14 NotYetMade " ++ decimal made
-refusal_text program (refusal.OutsideRetention horizon) = codes "15 OutsideRetention " ++ signed_decimal horizon
-refusal_text program refusal.NothingToUndrop = codes "16 NothingToUndrop"
-refusal_text program (refusal.LockHeld session) = codes "17 LockHeld " ++ name_of (slice_get program.sessions session)
-refusal_text program refusal.ClockEnd = codes "18 ClockEnd"
-refusal_text program refusal.InTransaction = codes "19 InTransaction"
-refusal_text program (refusal.BadData record_number column) = codes "20 BadData " ++ decimal record_number ++ codes " " ++ decimal column
-refusal_text program refusal.OutOfRange = codes "21 OutOfRange"
-refusal_text program (refusal.NullInRow column) = codes "22 NullInRow " ++ decimal column
+refusal_text program r = decimal (refusal_number r) ++ codes " " ++ refusal_name r ++ content_text program (refusal_content r)
 
 abbrev pub row_line : Row → List ℕ
 row_line row = codes ": " ++ row_text row ++ line_feed

@@ -5,3 +5,4 @@ pub mod Starts
 pub mod Texts
 pub mod TranscriptLaws
 pub mod TurnsLaws
+pub mod RefusalText

@@ -33,7 +33,8 @@ use Rattle.tt_plain.proofs.Answers.{bind_some, map_some, only_if_some}
 use Rattle.tt_plain.specs.Carried.{IsCarried, creates, inserts, queries}
 use Rattle.tt_plain.proofs.Carried.{carried_built}
 use Rattle.tt_plain.specs.NamedTables.{live_at}
-use Rattle.tt_plain.specs.Refusals.{refusal_in, refusal_of, refusal_over, refusal_number}
+use Rattle.tt_history.specs.Refusals.{refusal_number}
+use Rattle.tt_plain.specs.Refusals.{refusal_in, refusal_of, refusal_over}
 use Rattle.tt_plain.proofs.Refusals.{insert_on_table, known_on_table}
 use Rattle.tt_plain.specs.Replay.{step_of}
 use Rattle.tt_plain.specs.StartEntry.{start_step, start_told}

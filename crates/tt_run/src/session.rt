@@ -12,20 +12,20 @@ ghost use Rattle.tt_run.specs.Turns.{IsReplayed, Answers};
 
 use crate::insert::stored_rows;
 use std::alloc::{AllocError, Global};
-use tt_history::{Reply, SharedBag, Told};
+use tt_history::{Reply, SharedRows, Told};
 use tt_sql::{Dml, Insert, Query, Statement, Syntax};
 use tt_state::calls::{abandon, define, end_change, end_read, start};
 use tt_state::{Built, Catalog, Started, Ticket};
 
 // The rows that a query's ticket holds, shared and not copied.
-fn answer(ticket: &Ticket) -> Result<SharedBag, AllocError>
+fn answer(ticket: &Ticket) -> Result<SharedRows, AllocError>
     requires { 0 < vec_len ticket.now.sources }
     ensures { IfOk result (λ rows. rows ≡ rows_read (opened_by ticket.now).sources) }
 {
     let Some((seen, _others)) = ticket.sources.split_first() else {
         unreachable!()
     };
-    seen.rows.share()
+    seen.rows.in_order()
 }
 
 fn answer_query(cat: &mut Catalog, ticket: Ticket) -> Reply

@@ -7,12 +7,12 @@ ghost use Rattle.std.specs.List.{flat_map};
 ghost use Rattle.std.specs.Option.{option_copied};
 ghost use Rattle.tt_value.specs.values.RowText.{IsPrintable};
 ghost use Rattle.tt_plain.specs.Ways.{ends_statement as is_last_entry};
-ghost use Rattle.tt_plain.specs.Transcript.{AreReplies, name_of, actor_text, told_text, gone_text, part_text, added_text, report_text, miss_text, kind_text, journal_line, refusal_text, row_line, reply_text, told_reply, end_line, transcript_of};
+ghost use Rattle.tt_plain.specs.Transcript.{AreReplies, name_of, actor_text, told_text, gone_text, part_text, added_text, report_text, miss_text, kind_text, journal_line, content_text, refusal_text, row_line, reply_text, told_reply, end_line, transcript_of};
 ghost use Rattle.tt_run.specs.AnsweredLines.{next_reply, later_replies, answered_lines};
 
 use itoa::Buffer;
 use std::alloc::{AllocError, Global};
-use tt_history::{Actor, Added, Entry, EntryKind, Miss, Refusal, Reply, Told};
+use tt_history::{Actor, Added, Content, Entry, EntryKind, Miss, Refusal, Reply, Told};
 use tt_script::Script;
 use tt_value::{Row, write_row};
 
@@ -244,17 +244,23 @@ fn write_why(program: &Script, why: Miss, out: &mut Vec<u8>) -> Result<(), Alloc
     match why {
         Miss::Dropped => write_bytes(b" dropped", out),
         Miss::Suspended => write_bytes(b" suspended", out),
-        Miss::Held(session) => write_held(program, session, out),
+        Miss::Held(session) => write_named(b" held ", program, session, out),
         Miss::Gone(number) => write_numbered(b" gone ", number, out),
         Miss::Memory => write_bytes(b" memory", out),
     }
 }
 
-fn write_held(program: &Script, session: u32, out: &mut Vec<u8>) -> Result<(), AllocError>
+/// Appends the text and the session's name behind it.
+fn write_named(
+    text: &[u8],
+    program: &Script,
+    session: u32,
+    out: &mut Vec<u8>,
+) -> Result<(), AllocError>
     ensures ok { OnOk result (out.new.items
-        ≡ out.old.items ++ miss_text program.now (Miss.Held session)) }
+        ≡ out.old.items ++ (text.now ++ name_of (slice_get program.now.sessions session))) }
 {
-    write_bytes(b" held ", out)?;
+    write_bytes(text, out)?;
     write_session(program, session, out)?;
     Ok(())
 }
@@ -309,8 +315,8 @@ fn write_reply(program: &Script, reply: &Reply, out: &mut Vec<u8>) -> Result<(),
             write_numbered(b"= ", *count, out)?;
             write_bytes(b" deleted\n", out)?;
         }
-        Reply::Rows(bag) => {
-            let rows = bag.bag().rows();
+        Reply::Rows(shared) => {
+            let rows = shared.rows();
             write_rows(rows, out)?;
             write_bytes(b"= ", out)?;
             write_number(rows.len() as u64, out)?;
@@ -318,7 +324,7 @@ fn write_reply(program: &Script, reply: &Reply, out: &mut Vec<u8>) -> Result<(),
         }
         Reply::Refused(refusal) => {
             write_bytes(b"! ", out)?;
-            write_refusal(program, refusal, out)?;
+            write_refusal(program, *refusal, out)?;
             write_bytes(b"\n", out)?;
         }
         Reply::Memory => write_bytes(b"! memory\n", out)?,
@@ -346,47 +352,29 @@ fn write_row_line(row: &Row, out: &mut Vec<u8>) -> Result<(), AllocError>
     Ok(())
 }
 
-/// The name of the session that holds the table.
-fn write_holder(program: &Script, session: u32, out: &mut Vec<u8>) -> Result<(), AllocError>
-    ensures ok { OnOk result (out.new.items
-        ≡ out.old.items ++ refusal_text program.now (Refusal.LockHeld session)) }
+fn write_refusal(program: &Script, refusal: Refusal, out: &mut Vec<u8>) -> Result<(), AllocError>
+    ensures ok { OnOk result (out.new.items ≡ out.old.items ++ refusal_text program.now refusal) }
 {
-    write_bytes(b"17 LockHeld ", out)?;
-    write_session(program, session, out)?;
+    let line = refusal.line();
+    write_number(u64::from(line.number), out)?;
+    write_bytes(b" ", out)?;
+    write_bytes(line.name.as_bytes(), out)?;
+    write_content(program, line.content, out)?;
     Ok(())
 }
 
-fn write_refusal(program: &Script, refusal: &Refusal, out: &mut Vec<u8>) -> Result<(), AllocError>
-    ensures ok { OnOk result (out.new.items ≡ out.old.items ++ refusal_text program.now refusal.now) }
+fn write_content(program: &Script, content: Content, out: &mut Vec<u8>) -> Result<(), AllocError>
+    ensures ok { OnOk result (out.new.items ≡ out.old.items ++ content_text program.now content) }
 {
-    match refusal {
-        Refusal::Syntax(place) => write_placed(b"1 Syntax ", *place, out),
-        Refusal::UnknownTable(place) => write_placed(b"2 UnknownTable ", *place, out),
-        Refusal::TableExists(place) => write_placed(b"3 TableExists ", *place, out),
-        Refusal::UnknownColumn(place) => write_placed(b"4 UnknownColumn ", *place, out),
-        Refusal::WrongCount(place) => write_placed(b"5 WrongCount ", *place, out),
-        Refusal::TypeMismatch(place) => write_placed(b"6 TypeMismatch ", *place, out),
-        Refusal::NullInNotNull(place) => write_placed(b"7 NullInNotNull ", *place, out),
-        Refusal::RetentionRange(place) => write_placed(b"8 RetentionRange ", *place, out),
-        Refusal::KindMismatch(place) => write_placed(b"9 KindMismatch ", *place, out),
-        Refusal::UnknownFile(place) => write_placed(b"10 UnknownFile ", *place, out),
-        Refusal::InFuture => write_bytes(b"11 InFuture", out),
-        Refusal::UnknownStatement => write_bytes(b"12 UnknownStatement", out),
-        Refusal::StatementOpen => write_bytes(b"13 StatementOpen", out),
-        Refusal::NotYetMade(made) => write_numbered(b"14 NotYetMade ", *made, out),
-        Refusal::OutsideRetention(horizon) => {
-            write_signed(b"15 OutsideRetention ", *horizon, out)
+    match content {
+        Content::Nothing => Ok(()),
+        Content::Number(number) => write_numbered(b" ", number, out),
+        Content::Signed(number) => write_signed(b" ", number, out),
+        Content::Session(session) => write_named(b" ", program, session, out),
+        Content::Pair(first, second) => {
+            write_placed(b" ", first, out)?;
+            write_placed(b" ", second, out)
         }
-        Refusal::NothingToUndrop => write_bytes(b"16 NothingToUndrop", out),
-        Refusal::LockHeld(session) => write_holder(program, *session, out),
-        Refusal::ClockEnd => write_bytes(b"18 ClockEnd", out),
-        Refusal::InTransaction => write_bytes(b"19 InTransaction", out),
-        Refusal::BadData(record, column) => {
-            write_placed(b"20 BadData ", *record, out)?;
-            write_placed(b" ", *column, out)
-        }
-        Refusal::OutOfRange => write_bytes(b"21 OutOfRange", out),
-        Refusal::NullInRow(column) => write_placed(b"22 NullInRow ", *column, out),
     }
 }
 

@@ -1,4 +1,5 @@
 pub mod Book
+pub mod NamedTables
 pub mod Outcomes
 pub mod PlainOf
 pub mod Ready

@@ -9,7 +9,8 @@ use Rattle.tt_history.specs.declared.reply.Reply.TheVariants as reply
 use Rattle.tt_history.specs.declared.reply.Refusal.{Refusal}
 use Rattle.tt_plain.specs.declared.plain.Plain.{Plain}
 use Rattle.tt_plain.specs.Store.{with_ended, with_opened}
-use Rattle.tt_plain.specs.Refusals.{refusal_over, refusal_number, opened_of}
+use Rattle.tt_history.specs.Refusals.{refusal_number}
+use Rattle.tt_plain.specs.Refusals.{refusal_over, opened_of}
 use Rattle.tt_plain.specs.DefineEntry.{defined}
 use Rattle.tt_state.specs.declared.ticket.Started.{Started}
 use Rattle.tt_state.specs.declared.ticket.Started.TheVariants as started

@@ -17,7 +17,6 @@ ghost use Rattle.tt_state.specs.Outcomes.{reply_to_start};
 ghost use Rattle.tt_state.specs.Tickets.{opened_by, IsOpenTicket, IsQueryTicket, IsBuiltFor, GivesTicket};
 
 use crate::catalog::Catalog;
-use crate::lookup::refusal_number;
 use crate::ticket::{Built, Started, Ticket};
 use std::alloc::Global;
 use tt_history::{Actor, Entry, EntryKind, Refusal, Reply, Told};
@@ -81,7 +80,7 @@ fn refuse_text(cat: &mut Catalog, session: u32, index: u32, place: u32) -> Start
     let moment = cat.state.moment + 1;
     cat.state.end_statement(&cat.program, session, index);
     let refusal = Refusal::Syntax(place);
-    let told = Told::Refused(refusal_number(refusal));
+    let told = Told::Refused(refusal.number());
     let entry = session_entry(moment, session, index, EntryKind::Start(told));
     cat.history.push(entry);
     Started::Refused(refusal)

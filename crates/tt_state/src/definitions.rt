@@ -10,7 +10,7 @@ ghost use Rattle.tt_state.specs.Outcomes.{CarriesOut};
 ghost use Rattle.tt_state.specs.PlainOf.{plain_of};
 ghost use Rattle.tt_state.specs.Ready.{IsReady};
 
-use crate::lookup::{refusal, refusal_number};
+use crate::lookup::create_refusal;
 use crate::state::State;
 use std::alloc::{AllocError, Global};
 use tt_history::{Reply, SharedBag, Told};
@@ -98,15 +98,12 @@ impl State {
         requires moment { self.old.moment + 1 < 2 ^ 64 }
         ensures { CarriesOut (plain_of self.old) statement.now (plain_of self.new) result.0 result.1 }
     {
-        if let Some(refusal) = refusal(self.tables.as_slice(), statement) {
-            return (
-                Told::Refused(refusal_number(refusal)),
-                Reply::Refused(refusal),
-            );
-        }
         let Statement::Create(create) = statement else {
             unreachable!()
         };
+        if let Some(refusal) = create_refusal(self.tables.as_slice(), create, statement) {
+            return (Told::Refused(refusal.number()), Reply::Refused(refusal));
+        }
         match self.add_table(create) {
             Ok(()) => (Told::Done, Reply::Ok),
             Err(AllocError) => (Told::Memory, Reply::Memory),

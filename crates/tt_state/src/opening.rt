@@ -1,6 +1,6 @@
 //! How a statement begins: what it sees of the tables.
 
-ghost use Rattle.std.specs.Prelude.{◌≡◌, map, true, None, Ok, IfOk};
+ghost use Rattle.std.specs.Prelude.{◌≡◌, map, true, None, Some, Ok, IfOk, IfErr, OnOk};
 ghost use Rattle.std.specs.Option.{option_map};
 ghost use Rattle.tt_sql.specs.trees.Built.{built as is_built};
 ghost use Rattle.tt_plain.specs.Refusals.{refusal_over};
@@ -9,14 +9,15 @@ ghost use Rattle.tt_plain.specs.Store.{current_rows as rows_of};
 ghost use Rattle.tt_state.specs.Outcomes.{Starts};
 ghost use Rattle.tt_state.specs.PlainOf.{plain_of};
 ghost use Rattle.tt_state.specs.Ready.{IsReady};
+ghost use Rattle.tt_state.specs.NamedTables.{sources_of, target_of};
 ghost use Rattle.tt_state.specs.Tickets.{SeesTables, opened_with, seen_rows, read_table as read_of, written_table as written_of};
 
 use crate::definitions::empty_rows;
-use crate::lookup::{live_table, refusal, refusal_number};
+use crate::lookup::table_for;
 use crate::state::State;
 use crate::ticket::{Seen, Started, Ticket};
 use std::alloc::{AllocError, Global};
-use tt_history::{SharedBag, Told};
+use tt_history::{Refusal, SharedBag, Told};
 use tt_plain::{PlainOpen, PlainTable};
 use tt_script::Program;
 use tt_sql::{Dml, Statement};
@@ -52,33 +53,45 @@ fn written_table(alloc: Global, table: &PlainTable) -> Result<Seen, AllocError>
     })
 }
 
-// The tables that a statement reads, and the one that it changes.
-fn seen_tables(
-    alloc: Global,
-    tables: &[PlainTable],
-    statement: &Statement,
-) -> Result<(Vec<Seen>, Option<Seen>), AllocError>
+// A table that a statement names, and what it does with it.
+enum Named<'a> {
+    Read(&'a PlainTable),
+    Changed(&'a PlainTable),
+}
+
+// The table of a statement that begins, or why it is refused.
+fn named_table<'a>(tables: &'a [PlainTable], statement: &Statement) -> Result<Named<'a>, Refusal>
     requires built { is_built statement.now ≡ true }
     requires started { is_started (Ok statement.now) ≡ true }
-    requires free { refusal_over tables.now statement.now ≡ None }
-    ensures { IfOk result (λ seen. SeesTables tables.now statement.now seen.0.items seen.1) }
+    ensures sees { IfOk result (λ named. SeesTables tables.now statement.now (sources_of named) (target_of named)) }
+    ensures free { OnOk result (refusal_over tables.now statement.now ≡ None) }
+    ensures refused { IfErr result (λ refusal. refusal_over tables.now statement.now ≡ Some refusal) }
+{
+    match statement {
+        Statement::Query(query) => {
+            let table = table_for(tables, &query.first.table, statement)?;
+            Ok(Named::Read(table))
+        }
+        Statement::Dml(Dml::Insert(insert)) => {
+            let table = table_for(tables, &insert.table, statement)?;
+            Ok(Named::Changed(table))
+        }
+        _ => unreachable!(),
+    }
+}
+
+// The tables that a statement reads, and the one that it changes.
+fn seen_tables(alloc: Global, named: Named<'_>) -> Result<(Vec<Seen>, Option<Seen>), AllocError>
+    ensures sources { IfOk result (λ seen. seen.0.items ≡ sources_of named.entry) }
+    ensures target { IfOk result (λ seen. seen.1 ≡ target_of named.entry) }
 {
     let mut sources = Vec::new(alloc);
-    match statement {
-        Statement::Dml(Dml::Insert(insert)) => {
-            let Some(table) = live_table(tables, &insert.table) else {
-                unreachable!()
-            };
-            Ok((sources, Some(written_table(alloc, table)?)))
-        }
-        Statement::Query(query) => {
-            let Some(table) = live_table(tables, &query.first.table) else {
-                unreachable!()
-            };
+    match named {
+        Named::Read(table) => {
             sources.push(read_table(alloc, table)?)?;
             Ok((sources, None))
         }
-        _ => unreachable!(),
+        Named::Changed(table) => Ok((sources, Some(written_table(alloc, table)?))),
     }
 }
 
@@ -129,25 +142,36 @@ struct Opening {
     seen: PlainOpen,
 }
 
-fn make_opening(
-    alloc: Global,
-    tables: &[PlainTable],
-    index: u32,
-    statement: &Statement,
-) -> Result<Opening, AllocError>
-    requires built { is_built statement.now ≡ true }
-    requires started { is_started (Ok statement.now) ≡ true }
-    requires free { refusal_over tables.now statement.now ≡ None }
-    ensures sees { IfOk result (λ o. SeesTables tables.now statement.now o.sources.items o.target) }
-    ensures seen { IfOk result (λ o. o.seen ≡ opened_with index o.sources.items o.target) }
+fn make_opening(alloc: Global, index: u32, named: Named<'_>) -> Result<Opening, AllocError>
+    ensures sources { IfOk result (λ o. o.sources.items ≡ sources_of named.entry) }
+    ensures target { IfOk result (λ o. o.target ≡ target_of named.entry) }
+    ensures seen { IfOk result (λ o. o.seen ≡ opened_with index (sources_of named.entry) (target_of named.entry)) }
 {
-    let (sources, target) = seen_tables(alloc, tables, statement)?;
+    let (sources, target) = seen_tables(alloc, named)?;
     let seen = opened(alloc, index, sources.as_slice(), &target)?;
     Ok(Opening {
         sources,
         target,
         seen,
     })
+}
+
+// What a statement that is not refused sees when it begins, where memory is found.
+fn open(
+    alloc: Global,
+    tables: &[PlainTable],
+    index: u32,
+    statement: &Statement,
+) -> Result<Result<Opening, AllocError>, Refusal>
+    requires built { is_built statement.now ≡ true }
+    requires started { is_started (Ok statement.now) ≡ true }
+    ensures sees { IfOk result (λ made. IfOk made (λ o. SeesTables tables.now statement.now o.sources.items o.target)) }
+    ensures seen { IfOk result (λ made. IfOk made (λ o. o.seen ≡ opened_with index o.sources.items o.target)) }
+    ensures free { OnOk result (refusal_over tables.now statement.now ≡ None) }
+    ensures refused { IfErr result (λ refusal. refusal_over tables.now statement.now ≡ Some refusal) }
+{
+    let named = named_table(tables, statement)?;
+    Ok(make_opening(alloc, index, named))
 }
 
 impl State {
@@ -164,28 +188,31 @@ impl State {
         requires ready { IsReady program.now (plain_of self.old) session index }
         ensures { Starts program.now (plain_of self.old) session index statement.now (plain_of self.new) result.0 result.1 }
     {
-        if let Some(refusal) = refusal(self.tables.as_slice(), statement) {
-            self.end_statement(program, session, index);
-            let told = Told::Refused(refusal_number(refusal));
-            return (told, Started::Refused(refusal));
-        }
         let alloc = *self.tables.allocator();
-        let Ok(opening) = make_opening(alloc, self.tables.as_slice(), index, statement) else {
-            self.end_statement(program, session, index);
-            return (Told::Memory, Started::Memory);
-        };
-        let Opening {
-            sources,
-            target,
-            seen,
-        } = opening;
-        self.begin_statement(program, session, index, seen);
-        let ticket = Ticket {
-            session,
-            index,
-            sources,
-            target,
-        };
-        (Told::Done, Started::Ticket(ticket))
+        match open(alloc, self.tables.as_slice(), index, statement) {
+            Ok(Ok(opening)) => {
+                let Opening {
+                    sources,
+                    target,
+                    seen,
+                } = opening;
+                self.begin_statement(program, session, index, seen);
+                let ticket = Ticket {
+                    session,
+                    index,
+                    sources,
+                    target,
+                };
+                (Told::Done, Started::Ticket(ticket))
+            }
+            Ok(Err(AllocError)) => {
+                self.end_statement(program, session, index);
+                (Told::Memory, Started::Memory)
+            }
+            Err(refusal) => {
+                self.end_statement(program, session, index);
+                (Told::Refused(refusal.number()), Started::Refused(refusal))
+            }
+        }
     }
 }

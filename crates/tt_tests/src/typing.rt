@@ -139,8 +139,12 @@ fn assert_refused<R: Abort + AllocGlobal>(
     wanted: Option<Refusal>,
 ) -> Result<(), Fail> {
     let list = schemas(rt.alloc(), tables)?;
-    assert!(rt; names(statement, list.len()), "in {text}");
-    assert!(rt; check(statement, &list).err() == wanted, "in {text}");
+    let mut lent = Vec::new(rt.alloc());
+    for schema in &list {
+        lent.push(schema)?;
+    }
+    assert!(rt; names(statement, lent.len()), "in {text}");
+    assert!(rt; check(statement, &lent).err() == wanted, "in {text}");
     Ok(())
 }
 

@@ -16,7 +16,6 @@ use tt_sql::{
     ColumnDefinition, CreatedTable, Dml, Insert, InsertSource, Query, Selection, Source, Statement,
     TableKind, TableOptions, Tuple, built,
 };
-use tt_state::lookup::refusal;
 use tt_state::{Catalog, Seen, Started, State, Ticket};
 use tt_value::{Kind, Literal, Name, Row, Sequence, TableName, Text, Value};
 
@@ -152,16 +151,66 @@ fn a_table_is_defined(rt: HostRuntime) -> Result<(), Fail> {
     Ok(())
 }
 
-/// Why a statement is refused over the tables of a state.
+/// Why a statement is refused, or none where it is carried out.
+fn refusal_of<R: Abort>(rt: &R, reply: Reply) -> Option<Refusal> {
+    match reply {
+        Reply::Ok => None,
+        Reply::Refused(refusal) => Some(refusal),
+        _ => panic!(rt; "a definition answers nothing else with ample memory"),
+    }
+}
+
+/// Why a statement does not begin, or none where it does.
+fn refusal_to_start<R: Abort>(rt: &R, started: Started) -> Option<Refusal> {
+    match started {
+        Started::Ticket(
+            Ticket {
+                session: 0,
+                index: 2,
+                sources: _sources,
+                target: _target,
+            },
+        ) => None,
+        Started::Refused(refusal) => Some(refusal),
+        _ => panic!(rt; "the statement begins or is refused"),
+    }
+}
+
+/// Why a definition is refused where the table T is there.
+fn assert_definition<R: Abort + AllocGlobal>(
+    rt: &R,
+    statement: Statement,
+    want: Option<Refusal>,
+) -> Result<(), Fail> {
+    let program = program(rt.alloc())?;
+    let mut state = with_table(rt, &program)?;
+    assert!(rt; built(&statement));
+    assert!(rt; matches!(&statement, Statement::Create(_)));
+    assert!(rt; state.tables.len() < 10);
+    assert!(rt; is_ready(&program, &state, 2));
+    let (told, reply) = state.define(&program, 0, 2, &statement);
+    let told_as = match want {
+        None => Told::Done,
+        Some(refusal) => Told::Refused(refusal.number()),
+    };
+    assert!(rt; told == told_as);
+    assert!(rt; refusal_of(rt, reply) == want);
+    Ok(())
+}
+
+/// Why a query or an INSERT is refused where the table T is there.
 fn assert_refusal<R: Abort + AllocGlobal>(
     rt: &R,
     statement: Statement,
     want: Option<Refusal>,
 ) -> Result<(), Fail> {
     let program = program(rt.alloc())?;
-    let state = with_table(rt, &program)?;
+    let mut state = with_table(rt, &program)?;
     assert!(rt; built(&statement));
-    assert!(rt; refusal(state.tables.as_slice(), &statement) == want);
+    assert!(rt; matches!(&statement, Statement::Query(_) | Statement::Dml(_)));
+    assert!(rt; is_ready(&program, &state, 2));
+    let started = state.start(&program, 0, 2, &statement).1;
+    assert!(rt; refusal_to_start(rt, started) == want);
     Ok(())
 }
 
@@ -177,8 +226,8 @@ fn names_have_to_be_live(rt: HostRuntime) -> Result<(), Fail> {
 #[test]
 fn new_names_may_not_be_live(rt: HostRuntime) -> Result<(), Fail> {
     let alloc = rt.alloc();
-    assert_refusal(&rt, create(alloc, "U")?, None)?;
-    assert_refusal(&rt, create(alloc, "T")?, Some(Refusal::TableExists(13)))
+    assert_definition(&rt, create(alloc, "U")?, None)?;
+    assert_definition(&rt, create(alloc, "T")?, Some(Refusal::TableExists(13)))
 }
 
 #[test]

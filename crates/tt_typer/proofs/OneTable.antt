@@ -9,6 +9,9 @@ use Rattle.tt_sql.specs.declared.change.InsertSource.TheVariants as source
 use Rattle.tt_sql.specs.declared.change.Dml.TheVariants as dml
 use Rattle.tt_plain.specs.Places.{each, if_there, table_begin}
 use Rattle.tt_plain.specs.Tables.{schema_at}
+use Rattle.tt_typer.specs.LentSchemas.{lent}
+use Rattle.std.specs.Borrow.{Bor}
+use Rattle.std.proofs.lemmas.List.{length-map}
 use Rattle.tt_plain.specs.UnknownColumns.{unknown_among, unknown_in_source}
 use Rattle.tt_plain.specs.WrongCounts.{named_again, width, miscounted_source}
 use Rattle.tt_plain.specs.TypeMismatches.{misfit_in_source}
@@ -52,3 +55,8 @@ select_is [] i q is none long = absurd (omega (arith, long))
 select_is (s ∷ []) i q is none long = absurd (omega (arith, long))
 select_is (s ∷ r ∷ more) i q is none long =
     sym (ap (with_source s (r ∷ more) i) is ∙ ap (λ scope. select_found s scope i.columns (table_begin i.table) q) (one_scope q (r ∷ more) none (omega (arith, long))))
+
+-- ---- schemas that are lent
+
+pub lent_length : (schemas : List (Bor Schema)) → length (lent schemas) ≡ length schemas
+lent_length schemas = length-map schemas (λ (schema : Bor Schema). schema.now)

@@ -1,3 +1,4 @@
 pub mod Finds
 pub mod FoundParts
+pub mod LentSchemas
 pub mod TableScopes

@@ -3,6 +3,7 @@
 ghost use Rattle.std.specs.Prelude.{◌≡◌, length, None, Some, OnOk, IfErr};
 ghost use Rattle.tt_plain.specs.Tables.{tables_of, IsOverOneTable};
 ghost use Rattle.tt_plain.specs.TypingRefusal.{typing_refusal};
+ghost use Rattle.tt_typer.specs.LentSchemas.{lent};
 
 use crate::found::in_statement;
 use tt_history::Refusal;
@@ -16,11 +17,11 @@ use tt_value::Schema;
 /// key, so it finds nothing in a statement for a table's depth. Queries over several tables are not
 /// taken yet.
 #[tactic(auto, unfolding(tt_plain::specs::TypingRefusal::typing_refusal))]
-pub fn check(statement: &Statement, schemas: &[Schema]) -> Result<(), Refusal>
+pub fn check(statement: &Statement, schemas: &[&Schema]) -> Result<(), Refusal>
     requires tables { length schemas.now ≡ length (tables_of statement.now) }
     requires alone { IsOverOneTable statement.now }
-    ensures ok { OnOk result (typing_refusal schemas.now statement.now ≡ None) }
-    ensures refused { IfErr result (λ refusal. typing_refusal schemas.now statement.now ≡ Some refusal) }
+    ensures ok { OnOk result (typing_refusal (lent schemas.now) statement.now ≡ None) }
+    ensures refused { IfErr result (λ refusal. typing_refusal (lent schemas.now) statement.now ≡ Some refusal) }
 {
     let found = in_statement(schemas, statement);
     if let Some(place) = found.unknown {

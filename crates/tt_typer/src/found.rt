@@ -4,6 +4,7 @@ ghost use Rattle.std.specs.Prelude.{◌≡◌, ◌<◌, length, []};
 ghost use Rattle.tt_sql.specs.meaning.Scopes.{query_tables};
 ghost use Rattle.tt_plain.specs.Places.{table_begin as begin_of};
 ghost use Rattle.tt_plain.specs.Tables.{tables_of, dml_tables, schema_at, ReadsOneTable, IsOverOneTable};
+ghost use Rattle.tt_typer.specs.LentSchemas.{lent};
 ghost use Rattle.tt_typer.specs.TableScopes.{scope_in};
 ghost use Rattle.tt_typer.specs.Finds as spec;
 
@@ -129,20 +130,17 @@ fn in_create(create: &CreatedTable) -> Found
 }
 
 /// The schema of the table that is named so late, from 0.
-fn schema_of(schemas: &[Schema], at: usize) -> &Schema
+fn schema_of<'a>(schemas: &[&'a Schema], at: usize) -> &'a Schema
     requires { at < length schemas.now }
-    ensures { result.now ≡ schema_at schemas.now at }
+    ensures { result.now ≡ schema_at (lent schemas.now) at }
 {
-    match schemas.get(at) {
-        Some(schema) => schema,
-        None => unreachable!(),
-    }
+    schemas[at]
 }
 
-fn in_insert(schemas: &[Schema], insert: &Insert) -> Found
+fn in_insert(schemas: &[&Schema], insert: &Insert) -> Found
     requires tables { length schemas.now ≡ length (dml_tables (Dml.Insert insert.now)) }
     requires alone { ReadsOneTable (Dml.Insert insert.now) }
-    ensures { result ≡ spec.dml_found schemas.now (Dml.Insert insert.now) }
+    ensures { result ≡ spec.dml_found (lent schemas.now) (Dml.Insert insert.now) }
 {
     let target = schema_of(schemas, 0);
     match &insert.source {
@@ -157,10 +155,10 @@ fn in_insert(schemas: &[Schema], insert: &Insert) -> Found
     }
 }
 
-fn in_dml(schemas: &[Schema], dml: &Dml) -> Found
+fn in_dml(schemas: &[&Schema], dml: &Dml) -> Found
     requires tables { length schemas.now ≡ length (dml_tables dml.now) }
     requires alone { ReadsOneTable dml.now }
-    ensures { result ≡ spec.dml_found schemas.now dml.now }
+    ensures { result ≡ spec.dml_found (lent schemas.now) dml.now }
 {
     match dml {
         Dml::Insert(insert) => in_insert(schemas, insert),
@@ -179,10 +177,10 @@ fn in_alter(schema: &Schema, alter: &Alter) -> Found
     }
 }
 
-fn in_read(schemas: &[Schema], query: &Query) -> Found
+fn in_read(schemas: &[&Schema], query: &Query) -> Found
     requires tables { length schemas.now ≡ length (query_tables query.now) }
     requires alone { query.now.joins ≡ [] }
-    ensures { result ≡ spec.read_found schemas.now query.now }
+    ensures { result ≡ spec.read_found (lent schemas.now) query.now }
 {
     let scope = TableScope {
         table: &query.first.table,
@@ -192,10 +190,10 @@ fn in_read(schemas: &[Schema], query: &Query) -> Found
 }
 
 /// What is found in a statement over the schemas of its tables.
-pub fn in_statement(schemas: &[Schema], statement: &Statement) -> Found
+pub fn in_statement(schemas: &[&Schema], statement: &Statement) -> Found
     requires tables { length schemas.now ≡ length (tables_of statement.now) }
     requires alone { IsOverOneTable statement.now }
-    ensures { result ≡ spec.statement_found schemas.now statement.now }
+    ensures { result ≡ spec.statement_found (lent schemas.now) statement.now }
 {
     match statement {
         Statement::Query(query) => in_read(schemas, query),

@@ -6,7 +6,9 @@ ghost use Rattle.tt_value.specs.values.RowText.{IsPrintable};
 use super::{transcript, write_end, write_entries, write_journal_line, write_reply};
 use std::alloc::Global;
 use std::test::Fail;
-use tt_history::{Actor, Added, Entry, EntryKind, Miss, Refusal, Reply, SharedBag, Told};
+use tt_history::{
+    Actor, Added, Entry, EntryKind, Miss, Refusal, Reply, SharedBag, SharedRows, Told,
+};
 use tt_script::{Script, ScriptText, SessionText};
 use tt_value::{Bag, Row, Sequence, Text, Value};
 
@@ -67,15 +69,21 @@ fn number_row(alloc: Global, number: i64) -> Result<Row, Fail>
     Ok(Row { values })
 }
 
-/// A bag of rows of one number each.
-fn number_bag(alloc: Global, numbers: &[i64]) -> Result<Bag, Fail>
-    ensures { IfOk result (λ bag. All IsPrintable bag) }
+/// Rows of one number each.
+fn number_rows(alloc: Global, numbers: &[i64]) -> Result<Vec<Row>, Fail>
+    ensures { IfOk result (λ rows. All IsPrintable rows.items) }
 {
     let mut rows = Vec::new(alloc);
     for number in numbers {
         rows.push(number_row(alloc, *number)?)?;
     }
-    Ok(Bag::from_rows(alloc, rows)?)
+    Ok(rows)
+}
+
+/// The rows of a bag of such rows.
+fn number_bag(alloc: Global, numbers: &[i64]) -> Result<SharedRows, Fail> {
+    let bag = Bag::from_rows(alloc, number_rows(alloc, numbers)?)?;
+    Ok(SharedBag::new(alloc, bag)?.in_order()?)
 }
 
 #[test]
@@ -91,7 +99,7 @@ fn a_reply_stands_behind_the_entry_that_ends_its_statement(rt: HostRuntime) -> R
     let mut replies = Vec::new(alloc);
     replies.push(Reply::Ok)?;
     replies.push(Reply::Inserted(3))?;
-    let rows = SharedBag::new(alloc, number_bag(alloc, &[2, 1, 2])?)?;
+    let rows = number_bag(alloc, &[2, 1, 2])?;
     replies.push(Reply::Rows(rows))?;
     let mut out = Vec::new(alloc);
     write_entries(&program(alloc)?, &entries, replies.as_slice(), &mut out)?;
@@ -290,8 +298,9 @@ fn an_entry_is_told_by_its_moment_actor_index_and_kind(rt: HostRuntime) -> Resul
 fn each_reply_has_its_lines(rt: HostRuntime) -> Result<(), Fail> {
     let alloc = rt.alloc();
     let program = program(alloc)?;
-    let no_rows = SharedBag::new(alloc, number_bag(alloc, &[])?)?;
-    let rows = SharedBag::new(alloc, number_bag(alloc, &[7, -1])?)?;
+    let no_rows = number_bag(alloc, &[])?;
+    let rows = number_bag(alloc, &[7, -1])?;
+    let listed = SharedRows::new(alloc, number_rows(alloc, &[7, -1, 3])?)?;
     for (reply, wanted) in [
         (Reply::Ok, "= ok\n"),
         (Reply::Inserted(0), "= 0 inserted\n"),
@@ -302,6 +311,7 @@ fn each_reply_has_its_lines(rt: HostRuntime) -> Result<(), Fail> {
         ),
         (Reply::Rows(no_rows), "= 0 rows\n"),
         (Reply::Rows(rows), ": -1\n: 7\n= 2 rows\n"),
+        (Reply::Rows(listed), ": 7\n: -1\n: 3\n= 3 rows\n"),
         (
             Reply::Refused(Refusal::UnknownTable(0)),
             "! 2 UnknownTable 0\n",

@@ -1,12 +1,9 @@
-use Rattle.std.proofs.Common.{rules, ◌≡◌, ◌++◌, subst, ℤ, w64, FitsSigned}
-use Rattle.std.proofs.lemmas.Int.{to_z-of_z}
-use Rattle.std.specs.Prelude.{codes, OnOk}
-use Rattle.std.specs.Fmt.{signed_decimal}
+-- Four appends, one after another.
+use Rattle.std.proofs.Common.{◌∙◌}
+use Rattle.tt_run.proofs.RefusalText.{refusal_written}
 use Rattle.tt_run.proofs.transcript.write_refusal.Goals as goal
 
--- the number that was passed is the one that was given
-pub returns-in-OutsideRetention : goal.returns-in-OutsideRetention
-returns-in-OutsideRetention c =
-    let fits : FitsSigned w64 c.in-OutsideRetention.horizon = search rules in
-    let text : OnOk c.write_signed.result (c.write_signed.new.out.items ≡ c.args.out.now.items ++ (codes "15 OutsideRetention " ++ signed_decimal c.in-OutsideRetention.horizon)) = subst (λ (z : ℤ). OnOk c.write_signed.result (c.write_signed.new.out.items ≡ c.args.out.now.items ++ (codes "15 OutsideRetention " ++ signed_decimal z))) (to_z-of_z w64 c.in-OutsideRetention.horizon fits) c.write_signed.ensures.ok in
-    record { ok = rw c.in-OutsideRetention.is text }
+pub returns : goal.returns
+returns c = record {
+  ok = refusal_written c.args.program.now c.args.refusal _ _ _ _ _ _ _ _ c.in_ok-write_number.ensures.ok c.in_ok-write_bytes.ensures.ok c.in_ok-write_bytes-2.ensures.ok c.in_ok-write_content.ensures.ok (c.from.ensures ∙ c.line-line.ensures.number) (c.as_bytes.ensures.value ∙ c.line-line.ensures.name) c.line-line.ensures.content;
+}

@@ -32,14 +32,14 @@ pub invariant_of-cat : goal.invariant_of-cat
 invariant_of-cat c =
     let next = subst (λ (b : Book). next_statement b.program b.store c.args.session c.args.index ≡ Some (Err c.args.place)) (sym c.cat.view_is) c.requires in
     let step = start_refused _ _ _ _ _ (refusal.Syntax c.args.place) next refl refl in
-    let longer = c.push.ensures.entries ∙ ap (λ e. c.cat.inside.history.list ++ e ∷ []) (c.session_entry-entry.ensures ∙ ap (λ n. entry_at (plain_of c.cat.inside.state) c.args.session c.args.index (kind.Start (told.Refused n))) c.refusal_number.ensures) in
+    let longer = c.push.ensures.entries ∙ ap (λ e. c.cat.inside.history.list ++ e ∷ []) (c.session_entry-entry.ensures ∙ ap (λ n. entry_at (plain_of c.cat.inside.state) c.args.session c.args.index (kind.Start (told.Refused n))) c.number.ensures) in
     goes_on _ _ _ _ _ _ _ _ c.cat.invariant step longer c.end_statement.ensures c.push.ensures.room
 
 pub returns-clause-entry : goal.returns-clause-entry
 returns-clause-entry c =
     let next = subst (λ (b : Book). next_statement b.program b.store c.args.session c.args.index ≡ Some (Err c.args.place)) (sym c.cat.view_is) c.requires in
     let step = start_refused _ _ _ _ _ (refusal.Syntax c.args.place) next refl refl in
-    let longer = c.push.ensures.entries ∙ ap (λ e. c.cat.inside.history.list ++ e ∷ []) (c.session_entry-entry.ensures ∙ ap (λ n. entry_at (plain_of c.cat.inside.state) c.args.session c.args.index (kind.Start (told.Refused n))) c.refusal_number.ensures) in
+    let longer = c.push.ensures.entries ∙ ap (λ e. c.cat.inside.history.list ++ e ∷ []) (c.session_entry-entry.ensures ∙ ap (λ n. entry_at (plain_of c.cat.inside.state) c.args.session c.args.index (kind.Start (told.Refused n))) c.number.ensures) in
     let new : Book = record { program = c.cat.inside.program; cap = c.cat.inside.cap; history = c.push.new.self.list; store = plain_of c.end_statement.new.self } in
     subst (λ (b : Book). (x : Told) × MadeEntry b new (entry_at b.store c.args.session c.args.index (kind.Start x)) (Some (reply.Refused (refusal.Syntax c.args.place)))) c.cat.view_is
     (told.Refused 1, made (record { program = c.cat.inside.program; cap = c.cat.inside.cap; history = c.cat.inside.history.list; store = plain_of c.cat.inside.state }) _ _ _ _ _ step longer c.end_statement.ensures)
