@@ -67,39 +67,46 @@ pub fn serial_order_goes_on()
 
 /// The answer of a query of a whole table is the table's rows.
 pub fn whole_tables_are_answered()
-    ensures { (scope : Scope) (query : Query) (rows : List Row) → is_plain_query query ≡ true → IsBag rows →
+    ensures { (scope : Scope) (query : Query) (rows : List Row) → is_plain_query query ≡ true →
+        IsBag rows →
         answer_of scope query rows ≡ Some rows }
 {}
 
 /// The store to which a legal history leads is sound.
 pub fn legal_histories_lead_to_sound_stores()
-    ensures { (program : Script) (history : List Entry) (run : Run) → replay_of program history ≡ Some run →
+    ensures { (program : Script) (history : List Entry) (run : Run) →
+        replay_of program history ≡ Some run →
         IsSound program run.0 }
 {}
 
 /// A legal history's run has a reply just where an entry ends its statement.
 pub fn replies_stand_where_statements_end()
-    ensures { (program : Script) (history : List Entry) (run : Run) → replay_of program history ≡ Some run →
+    ensures { (program : Script) (history : List Entry) (run : Run) →
+        replay_of program history ≡ Some run →
         AnswersEach history run.1 }
 {}
 
 /// A session whose statement was answered is idle, with that statement done.
 pub fn answered_sessions_are_idle()
-    ensures { (program : Script) (old new : Plain) (session index : ℕ) (kind : EntryKind) (answer : Reply) →
+    ensures { (program : Script) (old new : Plain) (session index : ℕ) (kind : EntryKind)
+        (answer : Reply) →
         step_of program old (entry_at old session index kind) ≡ Some (new, Some answer) → IsIdle new session index }
 {}
 
 /// The statements of a program, counted session by session, are all its statements.
 pub fn statements_are_counted()
-    ensures { (sessions : List SessionText) → statements_in sessions ≡ length (all_statements sessions) }
+    ensures { (sessions : List SessionText) →
+        statements_in sessions ≡ length (all_statements sessions) }
 {}
 
 /// An INSERT of written rows that is not refused adds the rows of its tuples, each value in its column. They
 /// can be written where the values of the tuples can.
 pub fn accepted_inserts_add_rows()
-    ensures adds { (schema : Schema) (insert : Insert) (tuples : List Tuple) → IsFoundByName schema →
+    ensures adds { (schema : Schema) (insert : Insert) (tuples : List Tuple) →
+        IsFoundByName schema →
         insert.source ≡ source.Values tuples → IsWellTyped (schema ∷ []) (statement.Dml (dml.Insert insert)) →
         added_rows schema insert ≡ Some (map (stored_row schema insert.columns) (map tuple_values tuples)) }
-    ensures printable { (schema : Schema) (names : Option (List Name)) (tuples : List Tuple) → Each CanBeWritten tuples →
+    ensures printable { (schema : Schema) (names : Option (List Name)) (tuples : List Tuple) →
+        Each CanBeWritten tuples →
         All IsPrintable (map (stored_row schema names) (map tuple_values tuples)) }
 {}

@@ -1,8 +1,9 @@
 -- The statuses of the top call and their causes.
-use Rattle.std.specs.Prelude.{◌≡◌, ◌⊎◌, ◌+◌, ℕ, List, length, take, Option, IfSome, Result, Ok, Err, nat_lt, if◌then◌else◌, ⊤}
+use Rattle.std.specs.Prelude.{◌≡◌, ◌<◌, ◌↔◌, IsSome, ◌⊎◌, ◌+◌, ℕ, List, length, take, Option, IfSome, Result, Ok, Err, nat_lt, if◌then◌else◌, ⊤}
 use Rattle.tt_script.specs.declared.script.Script.{Script}
 use Rattle.tt_script.specs.Script.{answer_of}
 use Rattle.tt_run.specs.Words.{are_replay_words}
+use Rattle.tt_run.specs.declared.top.Outcome.{Outcome}
 use Rattle.tt_run.specs.declared.top.Status.{Status}
 use Rattle.tt_run.specs.declared.top.Status.TheVariants as status
 
@@ -43,6 +44,17 @@ IsDue due given = given ≡ due
 -- a status is the one that is due, or want of memory
 abbrev pub IsDueOrMemory : Status → Status → Type 0
 IsDueOrMemory due given = (given ≡ due) ⊎ (given ≡ status.OutOfMemory)
+
+-- the bytes that a source has left are the text of this script, or of none, with the first faulty line at this place
+abbrev pub IsScriptOf : Option (List ℕ) → Script → Type 0
+IsScriptOf left program = IfSome left (λ bytes. answer_of bytes ≡ Ok program)
+
+abbrev pub IsFaultOf : Option (List ℕ) → ℕ → Type 0
+IsFaultOf left place = IfSome left (λ bytes. answer_of bytes ≡ Err place)
+
+-- at want of memory there is a store exactly where the sink's count of bytes rose
+abbrev pub HasStoreWhereWritten : Outcome → ℕ → ℕ → Type 0
+HasStoreWhereWritten outcome before now = outcome.status ≡ status.OutOfMemory → (IsSome outcome.store ↔ (before < now))
 
 -- the bytes that a source gave: as many as its count rose by, and where it told what it had left, those that it lost from the front
 pub record WasGiven (left : Option (List ℕ)) (before now : ℕ) (input : List ℕ) : Type 0 where

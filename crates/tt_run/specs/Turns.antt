@@ -52,6 +52,9 @@ pub record Answers (old new : Book) (session index : ℕ) (answer : Reply) : Typ
 abbrev pub AreDone : Script → Plain → ℕ → Type 0
 AreDone program store count = (session : ℕ) (lines : SessionText) → session < count → slice_get program.sessions session ≡ Some lines → IsIdle store session (length lines.statements)
 
+abbrev pub AreAllDone : Script → Plain → Type 0
+AreAllDone program store = AreDone program store (length program.sessions)
+
 -- the others have done none, and have no entry
 pub record AreNew (book : Book) (count : ℕ) : Type 0 where
   pub idle : (session : ℕ) → count ≤ session → session < length book.program.sessions → IsIdle book.store session 0

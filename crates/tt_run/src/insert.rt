@@ -1,15 +1,12 @@
 //! The rows of an INSERT of written rows, as its table stores them.
 
 ghost use Rattle.std.specs.Prelude.{◌≡◌, All, IfOk, Some, map, length, slice_get};
-ghost use Rattle.std.specs.List.{position};
 ghost use Rattle.std.specs.Str.{bytes_eq};
-ghost use Rattle.tt_value.specs.declared.name.Name.{Name as NameValue};
 ghost use Rattle.tt_value.specs.values.RowText.{IsPrintable};
-ghost use Rattle.tt_value.specs.trees.Scope.{value_or_null};
 ghost use Rattle.tt_sql.specs.meaning.Changes.{for_column};
 ghost use Rattle.tt_plain.specs.InsertRows.{added_rows};
 ghost use Rattle.tt_plain.specs.WrongCounts.{width};
-ghost use Rattle.tt_run.specs.InsertedRows.{written, stored_cells, stored_by_name, tuple_cells, stored_tuple, IsAccepted};
+ghost use Rattle.tt_run.specs.InsertedRows.{stored_cells, stored_at, stored_by_name, named_cells, tuple_cells, listed_at, stored_tuple, stored_tuples, IsAccepted};
 
 use sqlite_items::{Items, at};
 use std::alloc::{AllocError, Global};
@@ -55,7 +52,7 @@ fn row_in_order(
 
 // Where a list names a column.
 fn place_of(names: &[Name], column: &Column) -> Option<usize>
-    ensures { result ≡ position (λ (name : NameValue). bytes_eq name.text column.now.name) names.now }
+    ensures { result ≡ listed_at names.now column.now }
 {
     names
         .iter()
@@ -64,7 +61,7 @@ fn place_of(names: &[Name], column: &Column) -> Option<usize>
 
 // What a column holds where this place is written, and else NULL.
 fn value_at(column: &Column, literals: &[Literal], place: usize) -> Result<Value, AllocError>
-    ensures { IfOk result (λ value. value ≡ for_column column.now (value_or_null (slice_get (written literals.now) place))) }
+    ensures { IfOk result (λ value. value ≡ stored_at column.now literals.now place) }
 {
     match at(literals, place) {
         Some(literal) => fitted(column, &literal.value),
@@ -89,7 +86,7 @@ fn row_by_names(
     names: &[Name],
     literals: &[Literal],
 ) -> Result<Vec<Value>, AllocError>
-    ensures { IfOk result (λ values. values.items ≡ map (stored_by_name names.now literals.now) columns.now) }
+    ensures { IfOk result (λ values. values.items ≡ named_cells columns.now names.now literals.now) }
 {
     let mut values = Vec::new(alloc);
     for column in columns {
@@ -106,7 +103,7 @@ fn tuple_values(
     literals: &[Literal],
 ) -> Result<Vec<Value>, AllocError>
     requires { length literals.now ≡ width (record { columns = columns.now }) names.now }
-    ensures { IfOk result (λ values. values.items ≡ tuple_cells columns.now names.now literals.now) }
+    ensures { IfOk result (λ row. row.items ≡ tuple_cells columns.now names.now literals.now) }
 {
     match names {
         None => row_in_order(alloc, columns, literals),
@@ -141,7 +138,7 @@ fn tuple_rows(
     tuples: &[Tuple],
 ) -> Result<Vec<Row>, AllocError>
     requires { All (λ tuple. length tuple.values ≡ width schema.now names.now) tuples.now }
-    ensures { IfOk result (λ rows. rows.items ≡ map (stored_tuple schema.now names.now) tuples.now) }
+    ensures { IfOk result (λ rows. rows.items ≡ stored_tuples schema.now names.now tuples.now) }
 {
     let mut rows = Vec::new(alloc);
     for tuple in tuples {

@@ -3,7 +3,7 @@
 ghost use Rattle.std.specs.Prelude.{◌≡◌, ◌≤◌, ◌<◌, ◌+◌, ◌^◌, length, IfOk, OnOk, [], Some, slice_get};
 ghost use Rattle.tt_plain.specs.Store.{empty_store};
 ghost use Rattle.tt_plain.specs.Turns.{IsIdle};
-ghost use Rattle.tt_run.specs.Turns.{IsReplayed, HasReplies, Answers, InTurn, KeepsOthers, AreDone};
+ghost use Rattle.tt_run.specs.Turns.{IsReplayed, HasReplies, Answers, InTurn, KeepsOthers, AreAllDone};
 ghost use Rattle.tt_run.specs.Outcomes.{IsFinished, IsTranscript, InOrder};
 
 use crate::parsing::{carried, read_statement};
@@ -83,7 +83,7 @@ fn run_sessions(
     ensures program { IfOk result (λ _. cat.new.program ≡ program.now) }
     ensures rows { IfOk result (λ _. cat.new.cap ≡ cat.old.cap) }
     ensures replies { IfOk result (λ replies. HasReplies cat.new replies.items) }
-    ensures done { IfOk result (λ _. AreDone program.now cat.new.store (length program.now.sessions)) }
+    ensures done { IfOk result (λ _. AreAllDone program.now cat.new.store) }
     ensures order { IfOk result (λ _. InOrder cat.new) }
 {
     let mut replies = Vec::new(alloc);

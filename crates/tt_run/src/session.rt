@@ -4,7 +4,7 @@ ghost use Rattle.std.specs.Prelude.{◌≡◌, ◌<◌, IfOk, Ok, Err, Some, vec
 ghost use Rattle.tt_sql.specs.declared.change.Dml.TheVariants as dml;
 ghost use Rattle.tt_sql.specs.declared.statement.Statement.TheVariants as statement;
 ghost use Rattle.tt_plain.specs.SelectRows.{rows_read};
-ghost use Rattle.tt_plain.specs.Store.{next_statement};
+ghost use Rattle.tt_state.specs.MadeEntries.{IsNextRead};
 ghost use Rattle.tt_state.specs.Tickets.{IsTicketOf, IsQueryTicket, opened_by};
 ghost use Rattle.tt_run.specs.InsertedRows.{IsFor, AreAdded};
 ghost use Rattle.tt_run.specs.Reading.{as_read};
@@ -75,7 +75,7 @@ fn change_rows(cat: &mut Catalog, alloc: Global, ticket: Ticket, insert: &Insert
 }
 
 fn run_query(cat: &mut Catalog, session: u32, index: u32, whole: &Statement, query: &Query) -> Reply
-    requires next { next_statement cat.old.program cat.old.store session index ≡ Some (Ok whole.now) }
+    requires next { IsNextRead cat.old session index (Ok whole.now) }
     requires query { whole.now ≡ statement.Query query.now }
     ensures { Answers cat.old cat.new session index result }
 {
@@ -94,7 +94,7 @@ fn run_insert(
     whole: &Statement,
     insert: &Insert,
 ) -> Reply
-    requires next { next_statement cat.old.program cat.old.store session index ≡ Some (Ok whole.now) }
+    requires next { IsNextRead cat.old session index (Ok whole.now) }
     requires insert { whole.now ≡ statement.Dml (dml.Insert insert.now) }
     requires replayed { IsReplayed cat.old }
     ensures { Answers cat.old cat.new session index result }
@@ -108,7 +108,7 @@ fn run_insert(
 
 // A text that is no statement, or one that is not carried out yet.
 fn refuse_text(cat: &mut Catalog, session: u32, index: u32, syntax: Syntax) -> Reply
-    requires { next_statement cat.old.program cat.old.store session index ≡ Some (Err syntax.place) }
+    requires { IsNextRead cat.old session index (Err syntax.place) }
     ensures { Answers cat.old cat.new session index result }
 {
     match start(cat, session, index, Err(syntax)) {
@@ -133,7 +133,7 @@ fn run_change(
     whole: &Statement,
     change: &Dml,
 ) -> Reply
-    requires next { next_statement cat.old.program cat.old.store session index ≡ Some (Ok whole.now) }
+    requires next { IsNextRead cat.old session index (Ok whole.now) }
     requires change { whole.now ≡ statement.Dml change.now }
     requires replayed { IsReplayed cat.old }
     ensures { Answers cat.old cat.new session index result }
@@ -145,7 +145,7 @@ fn run_change(
 }
 
 fn run_whole(cat: &mut Catalog, alloc: Global, session: u32, index: u32, whole: &Statement) -> Reply
-    requires next { next_statement cat.old.program cat.old.store session index ≡ Some (Ok whole.now) }
+    requires next { IsNextRead cat.old session index (Ok whole.now) }
     requires replayed { IsReplayed cat.old }
     ensures { Answers cat.old cat.new session index result }
 {
@@ -165,7 +165,7 @@ pub fn run_statement(
     index: u32,
     read: Result<Statement, Syntax>,
 ) -> Reply
-    requires next { next_statement cat.old.program cat.old.store session index ≡ Some (as_read read) }
+    requires next { IsNextRead cat.old session index (as_read read) }
     requires replayed { IsReplayed cat.old }
     ensures { Answers cat.old cat.new session index result }
 {

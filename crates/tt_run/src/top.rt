@@ -10,7 +10,7 @@ ghost use Rattle.tt_plain.specs.SerialOrder.{IsSerialOrder};
 ghost use Rattle.tt_plain.specs.Transcript.{transcript_of};
 ghost use Rattle.tt_run.specs.Outcomes.{IsFinished, IsTranscript, InOrder, Stands};
 ghost use Rattle.tt_run.specs.Words.{partition_rows_of, are_replay_words};
-ghost use Rattle.tt_run.specs.Top.{number_of, longest_input, input_status, due_status, IsDue, IsDueOrMemory, WasGiven, IfWholeInput, GaveFor, IfBadInput, IsEarly, IsLate};
+ghost use Rattle.tt_run.specs.Top.{number_of, longest_input, input_status, due_status, IsDue, IsDueOrMemory, IsScriptOf, IsFaultOf, HasStoreWhereWritten, WasGiven, IfWholeInput, GaveFor, IfBadInput, IsEarly, IsLate};
 
 use crate::run::{Finished, run_program};
 use crate::words::partition_rows;
@@ -69,7 +69,7 @@ fn read_script(alloc: Global, bytes: Vec<u8>) -> Result<Program, ReadError>
 
 // Reads the input to its end and the script from it.
 fn read_program<S: Source>(alloc: Global, source: &mut S) -> Result<Program, Status>
-    ensures read { IfOk result (λ program. IfSome (S.left source.old) (λ left. answer_of left ≡ Ok program)) }
+    ensures read { IfOk result (IsScriptOf (S.left source.old)) }
     ensures spelled { IfOk result (λ program. answer_of program.text ≡ Ok program) }
     ensures counted { IfOk result (λ program. S.given source.new ≡ S.given source.old + length program.text) }
     ensures short { IfOk result (λ program. length program.text < 2 ^ 32) }
@@ -80,7 +80,7 @@ fn read_program<S: Source>(alloc: Global, source: &mut S) -> Result<Program, Sta
     ensures taken { LosesFront (S.left source.old) (S.left source.new) (S.given source.new - S.given source.old) }
     ensures early { IfErr result IsEarly }
     ensures bad_input { IfErr result (λ status. IfBadInput status (λ _. IsAtEnd (S.left source.new))) }
-    ensures place { IfErr result (λ status. IfBadInput status (λ place. IfSome (S.left source.old) (λ left. answer_of left ≡ Err place))) }
+    ensures place { IfErr result (λ status. IfBadInput status (IsFaultOf (S.left source.old))) }
     ensures due { IfSome (S.left source.old) (λ input. IfErr result (IsDue (input_status input))) }
     ensures due_ok { IfSome (S.left source.old) (λ input. OnOk result (input_status input ≡ Status.Ok)) }
     ensures too_long { IsErrOf result Status.TooLong ↔ (longest_input < S.given source.new - S.given source.old) }
@@ -102,8 +102,10 @@ fn read_program<S: Source>(alloc: Global, source: &mut S) -> Result<Program, Sta
 // Writes the transcript, and says how far it came.
 fn finish<K: Sink>(sink: &mut K, finished: Finished) -> Outcome
     ensures kept { IfSome result.store (λ store. store ≡ finished.store) }
-    ensures whole { result.status ≡ Status.Ok → Appends (K.holds sink.old) (K.holds sink.new) finished.text.items }
-    ensures whole_counted { result.status ≡ Status.Ok → K.received sink.new ≡ K.received sink.old + length finished.text.items }
+    ensures whole { result.status ≡ Status.Ok
+        → Appends (K.holds sink.old) (K.holds sink.new) finished.text.items }
+    ensures whole_counted { result.status ≡ Status.Ok
+        → K.received sink.new ≡ K.received sink.old + length finished.text.items }
     ensures prefix { OnSome result.store ((written : ℕ)
         × (written ≤ length finished.text.items)
         × Appends (K.holds sink.old) (K.holds sink.new) (take written finished.text.items)
@@ -112,7 +114,7 @@ fn finish<K: Sink>(sink: &mut K, finished: Finished) -> Outcome
     ensures untouched { IfNone result.store (Keeps (K.holds sink.old) (K.holds sink.new)) }
     ensures ok { result.status ≡ Status.Ok → IsSome result.store }
     ensures fault { result.status ≡ Status.WriteFault → IsSome result.store }
-    ensures memory { result.status ≡ Status.OutOfMemory → (IsSome result.store ↔ (K.received sink.old < K.received sink.new)) }
+    ensures memory { HasStoreWhereWritten result (K.received sink.old) (K.received sink.new) }
     ensures failed { result.status ≡ Status.WriteFault → Rose (K.faults sink.old) (K.faults sink.new) }
     ensures late { IsLate result.status }
 {
@@ -165,7 +167,7 @@ pub fn top_alone<S: Source, K: Sink>(
     // The program is what the grammar reads from all that the source gave, to its end. Where the source tells
     // its bytes, these are they; else there are as many.
     ensures spelled { IfSome result.store (λ store. answer_of store.program.text ≡ Ok store.program) }
-    ensures read { IfSome result.store (λ store. IfSome (S.left source.old) (λ left. answer_of left ≡ Ok store.program)) }
+    ensures read { IfSome result.store (λ store. IsScriptOf (S.left source.old) store.program) }
     ensures given { IfSome result.store (λ store. WasGiven (S.left source.old) (S.given source.old) (S.given source.new) store.program.text) }
     ensures end { OnSome result.store (IsAtEnd (S.left source.new)) }
     ensures taken { LosesFront (S.left source.old) (S.left source.new) (S.given source.new - S.given source.old) }
@@ -173,7 +175,7 @@ pub fn top_alone<S: Source, K: Sink>(
     // When there is a store.
     ensures ok { result.status ≡ Status.Ok → IsSome result.store }
     ensures fault { result.status ≡ Status.WriteFault → IsSome result.store }
-    ensures memory { result.status ≡ Status.OutOfMemory → (IsSome result.store ↔ (K.received sink.old < K.received sink.new)) }
+    ensures memory { HasStoreWhereWritten result (K.received sink.old) (K.received sink.new) }
     ensures late { OnSome result.store (IsLate result.status) }
 
     // Each status by its cause.
@@ -181,7 +183,7 @@ pub fn top_alone<S: Source, K: Sink>(
     ensures read_fault { result.status ≡ Status.ReadFault → Rose (S.faults source.old) (S.faults source.new) }
     ensures too_long { (result.status ≡ Status.TooLong) ↔ (longest_input < S.given source.new - S.given source.old) }
     ensures bad_input { IfBadInput result.status (λ place. IsAtEnd (S.left source.new)
-        × IfSome (S.left source.old) (λ left. answer_of left ≡ Err place)) }
+        × IsFaultOf (S.left source.old) place) }
     ensures whole { IfWholeInput result.status (GaveFor (S.left source.old) (S.given source.old) (S.given source.new)) }
     ensures write_fault { result.status ≡ Status.WriteFault → Rose (K.faults sink.old) (K.faults sink.new) }
 

@@ -266,7 +266,8 @@ fn write_named(
 }
 
 fn write_purge(parts: &[u64], out: &mut Vec<u8>) -> Result<(), AllocError>
-    ensures ok { OnOk result (out.new.items ≡ out.old.items ++ (codes "purge" ++ gone_text parts.now)) }
+    ensures ok { OnOk result (out.new.items
+        ≡ out.old.items ++ (codes "purge" ++ gone_text parts.now)) }
 {
     write_bytes(b"purge", out)?;
     write_gone(parts, out)?;
@@ -412,7 +413,8 @@ fn write_number(number: u64, out: &mut Vec<u8>) -> Result<(), AllocError>
 
 /// Appends the text and the number behind it.
 fn write_signed(text: &[u8], number: i64, out: &mut Vec<u8>) -> Result<(), AllocError>
-    ensures ok { OnOk result (out.new.items ≡ out.old.items ++ (text.now ++ signed_decimal number)) }
+    ensures ok { OnOk result (out.new.items
+        ≡ out.old.items ++ (text.now ++ signed_decimal number)) }
 {
     let mut digits = Buffer::new();
     write_bytes(text, out)?;

@@ -1,4 +1,6 @@
 pub mod Book
+pub mod MadeEntries
+pub mod Moves
 pub mod NamedTables
 pub mod Outcomes
 pub mod PlainOf

@@ -14,12 +14,18 @@ use Rattle.tt_plain.specs.Store.{open_statement, table_numbered, current_rows}
 use Rattle.tt_plain.specs.NamedTables.{live_at}
 use Rattle.tt_plain.specs.AcceptedInserts.{AddsItsTuples}
 use Rattle.tt_plain.specs.InsertRows.{added_rows}
+use Rattle.tt_plain.specs.Refusals.{refusal_over}
+use Rattle.tt_history.specs.declared.reply.Refusal.{Refusal}
 use Rattle.tt_state.specs.declared.ticket.Ticket.{Ticket}
 use Rattle.tt_state.specs.declared.ticket.Seen.{Seen}
 use Rattle.tt_state.specs.declared.ticket.Built.{Built}
 use Rattle.tt_state.specs.declared.ticket.Started.{Started}
 use Rattle.tt_state.specs.declared.ticket.Started.TheVariants as started
 use Rattle.tt_state.specs.Book.{Book}
+
+-- why a statement is refused over these tables
+abbrev pub IsRefusal : List PlainTable → Statement → Refusal → Type 0
+IsRefusal tables statement refusal = refusal_over tables statement ≡ Some refusal
 
 -- ---- what a statement sees
 

@@ -1,20 +1,14 @@
 //! The calls by which statements change the catalog, each of which makes one entry.
 
-ghost use Rattle.std.specs.Prelude.{◌≡◌, true, Some, Ok, Err, [], IfOk, IfErr};
+ghost use Rattle.std.specs.Prelude.{◌≡◌, true, Ok, Err, [], IfOk, IfErr};
 ghost use Rattle.tt_plain.specs.Statements.{is_started, is_definition};
-ghost use Rattle.tt_plain.specs.Store.{next_statement};
-ghost use Rattle.tt_plain.specs.SelectRows.{rows_read};
-ghost use Rattle.tt_plain.specs.NextEntry.{entry_at};
-ghost use Rattle.tt_history.specs.declared.history.Actor.TheVariants as actor;
-ghost use Rattle.tt_history.specs.declared.history.Told.{Told};
 ghost use Rattle.tt_history.specs.declared.history.Told.TheVariants as told;
 ghost use Rattle.tt_history.specs.declared.history.EntryKind.TheVariants as kind;
 ghost use Rattle.tt_history.specs.declared.reply.Reply.TheVariants as reply;
 ghost use Rattle.tt_history.specs.declared.reply.Refusal.TheVariants as refusal;
 ghost use Rattle.tt_state.specs.declared.ticket.Started.TheVariants as started;
-ghost use Rattle.tt_state.specs.Book.{MadeEntry};
-ghost use Rattle.tt_state.specs.Outcomes.{reply_to_start};
-ghost use Rattle.tt_state.specs.Tickets.{opened_by, IsOpenTicket, IsQueryTicket, IsBuiltFor, GivesTicket};
+ghost use Rattle.tt_state.specs.MadeEntries.{entry_of, IsNextRead, MadeDefine, MadeStart, MadeEnd, MadeAbandon, answer_held};
+ghost use Rattle.tt_state.specs.Tickets.{IsOpenTicket, IsQueryTicket, IsBuiltFor, GivesTicket};
 
 use crate::catalog::Catalog;
 use crate::ticket::{Built, Started, Ticket};
@@ -24,7 +18,7 @@ use tt_sql::{Statement, Syntax};
 use tt_value::Sequence;
 
 fn session_entry(moment: u64, session: u32, index: u32, kind: EntryKind) -> Entry
-    ensures { result ≡ record { moment = moment; actor = actor.Session session; index = index; kind = kind } }
+    ensures { result ≡ entry_of moment session index kind }
 {
     Entry {
         moment,
@@ -47,9 +41,9 @@ fn end_without_parts(alloc: Global) -> EntryKind
 /// Makes the Define entry of a session's next statement, which is a definition: it is carried out, or
 /// refused, or finds no memory.
 pub fn define(cat: &mut Catalog, session: u32, index: u32, statement: &Statement) -> Reply
-    requires next { next_statement cat.old.program cat.old.store session index ≡ Some (Ok statement.now) }
+    requires next { IsNextRead cat.old session index (Ok statement.now) }
     requires definition { is_definition (Ok statement.now) ≡ true }
-    ensures { (told : Told) × MadeEntry cat.old cat.new (entry_at cat.old.store session index (kind.Define told)) (Some result) }
+    ensures { MadeDefine cat.old cat.new session index result }
 {
     let moment = cat.state.moment + 1;
     let (told, reply) = cat.state.define(&cat.program, session, index, statement);
@@ -59,9 +53,9 @@ pub fn define(cat: &mut Catalog, session: u32, index: u32, statement: &Statement
 }
 
 fn start_statement(cat: &mut Catalog, session: u32, index: u32, statement: &Statement) -> Started
-    requires next { next_statement cat.old.program cat.old.store session index ≡ Some (Ok statement.now) }
+    requires next { IsNextRead cat.old session index (Ok statement.now) }
     requires started { is_started (Ok statement.now) ≡ true }
-    ensures entry { (told : Told) × MadeEntry cat.old cat.new (entry_at cat.old.store session index (kind.Start told)) (reply_to_start result) }
+    ensures entry { MadeStart cat.old cat.new session index result }
     ensures ticket { GivesTicket cat.old cat.new session index statement.now result }
 {
     let moment = cat.state.moment + 1;
@@ -73,8 +67,8 @@ fn start_statement(cat: &mut Catalog, session: u32, index: u32, statement: &Stat
 
 // A text that is no statement is refused at its start. It takes no memory.
 fn refuse_text(cat: &mut Catalog, session: u32, index: u32, place: u32) -> Started
-    requires { next_statement cat.old.program cat.old.store session index ≡ Some (Err place) }
-    ensures entry { (told : Told) × MadeEntry cat.old cat.new (entry_at cat.old.store session index (kind.Start told)) (reply_to_start result) }
+    requires { IsNextRead cat.old session index (Err place) }
+    ensures entry { MadeStart cat.old cat.new session index result }
     ensures refused { result ≡ started.Refused (refusal.Syntax place) }
 {
     let moment = cat.state.moment + 1;
@@ -95,12 +89,12 @@ pub fn start(
     index: u32,
     parsed: Result<&Statement, Syntax>,
 ) -> Started
-    requires next { IfOk parsed (λ statement. next_statement cat.old.program cat.old.store session index ≡ Some (Ok statement.now)) }
+    requires next { IfOk parsed (λ statement. IsNextRead cat.old session index (Ok statement.now)) }
     requires started { IfOk parsed (λ statement. is_started (Ok statement.now) ≡ true) }
-    requires bad { IfErr parsed (λ syntax. next_statement cat.old.program cat.old.store session index ≡ Some (Err syntax.place)) }
-    ensures entry { (told : Told) × MadeEntry cat.old cat.new (entry_at cat.old.store session index (kind.Start told)) (reply_to_start result) }
-    ensures ticket { IfOk parsed.entry (λ statement. GivesTicket cat.old cat.new session index statement.now result) }
-    ensures refused { IfErr parsed.entry (λ syntax. result ≡ started.Refused (refusal.Syntax syntax.place)) }
+    requires bad { IfErr parsed (λ syntax. IsNextRead cat.old session index (Err syntax.place)) }
+    ensures entry { MadeStart cat.old cat.new session index result }
+    ensures ticket { IfOk parsed.entry (λ s. GivesTicket cat.old cat.new session index s.now result) }
+    ensures refused { IfErr parsed.entry (λ s. result ≡ started.Refused (refusal.Syntax s.place)) }
 {
     match parsed {
         Ok(statement) => start_statement(cat, session, index, statement),
@@ -112,7 +106,7 @@ pub fn start(
 /// memory.
 pub fn end_read(cat: &mut Catalog, ticket: Ticket)
     requires { IsQueryTicket cat.old ticket }
-    ensures { MadeEntry cat.old cat.new (entry_at cat.old.store ticket.session ticket.index (kind.End [] [])) (Some (reply.Rows (rows_read (opened_by ticket).sources))) }
+    ensures { MadeEnd cat.old cat.new ticket (answer_held ticket) }
 {
     let Ticket {
         session,
@@ -136,7 +130,7 @@ pub fn end_read(cat: &mut Catalog, ticket: Ticket)
 pub fn abandon(cat: &mut Catalog, ticket: Ticket, why: Told)
     requires ticket { IsOpenTicket cat.old ticket }
     requires why { why ≡ told.Memory }
-    ensures { MadeEntry cat.old cat.new (entry_at cat.old.store ticket.session ticket.index (kind.Abandon told.Memory)) (Some reply.Memory) }
+    ensures { MadeAbandon cat.old cat.new ticket }
 {
     let Ticket {
         session,
@@ -154,7 +148,7 @@ pub fn abandon(cat: &mut Catalog, ticket: Ticket, why: Told)
 /// ticket back, and then the catalog is unchanged.
 pub fn end_change(cat: &mut Catalog, ticket: Ticket, built: Built) -> Result<Reply, Ticket>
     requires { IsBuiltFor cat.old ticket built }
-    ensures ok { IfOk result (λ answer. MadeEntry cat.old cat.new (entry_at cat.old.store ticket.session ticket.index (kind.End [] [])) (Some answer)) }
+    ensures ok { IfOk result (λ answer. MadeEnd cat.old cat.new ticket answer) }
     ensures counted { IfOk result (λ answer. answer ≡ reply.Inserted built.count) }
     ensures ticket { IfErr result (λ again. again ≡ ticket) }
     ensures unchanged { IfErr result (λ _. cat.new ≡ cat.old) }

@@ -55,7 +55,7 @@ fn first_points(alloc: Global, program: &Script) -> Result<Vec<Option<u64>>, All
 }
 
 fn first_sessions(alloc: Global, program: &Script) -> Result<Vec<PlainSession>, AllocError>
-    ensures { IfOk result (λ sessions. sessions.items ≡ map (λ _. new_session) program.now.sessions) }
+    ensures { IfOk result (λ made. made.items ≡ map (λ _. new_session) program.now.sessions) }
 {
     let mut sessions = Vec::new(alloc);
     for _lines in program.sessions.items() {

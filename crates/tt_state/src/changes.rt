@@ -1,10 +1,8 @@
 //! Rows that a change adds to a table.
 
 ghost use Rattle.std.specs.Prelude.{◌≡◌, ◌<◌, ◌≤◌, ◌+◌, ◌^◌, length, All, IfOk, OnOk, OnErr, Some};
-ghost use Rattle.tt_value.specs.values.Bags.{bag_of, bag_plus};
 ghost use Rattle.tt_value.specs.values.RowText.{IsPrintable};
-ghost use Rattle.tt_plain.specs.Store.{current_rows as rows_of};
-ghost use Rattle.tt_plain.specs.InsertRows.{with_commit};
+ghost use Rattle.tt_state.specs.Moves.{HasRows, version_with};
 ghost use Rattle.tt_state.specs.PlainOf.{plain_of};
 
 use crate::opening::current_rows;
@@ -22,7 +20,7 @@ fn next_version(
     rows: Vec<Row>,
 ) -> Result<Version, AllocError>
     requires { All IsPrintable rows.items }
-    ensures { IfOk result (λ version. version ≡ record { begun = moment; rows = bag_plus (rows_of table.now) (bag_of rows.items) }) }
+    ensures { IfOk result (λ version. version ≡ version_with table.now moment rows.items) }
 {
     let added = Bag::from_rows(alloc, rows)?;
     let current = current_rows(alloc, table)?;
@@ -41,7 +39,7 @@ impl State {
         requires known { number ≤ length self.old.tables.items }
         requires moment { self.old.moment + 1 < 2 ^ 64 }
         requires printable { All IsPrintable rows.items }
-        ensures ok { OnOk result (with_commit (plain_of self.old) (self.old.moment + 1) number rows.items ≡ Some (plain_of self.new)) }
+        ensures ok { OnOk result (HasRows self.old self.new number rows.items) }
         ensures err { OnErr result (plain_of self.new ≡ plain_of self.old) }
     {
         let alloc = *self.tables.allocator();

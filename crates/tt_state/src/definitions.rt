@@ -2,11 +2,9 @@
 
 ghost use Rattle.std.specs.Prelude.{◌≡◌, ◌+◌, ◌<◌, ◌^◌, length, map, IfOk, OnOk, OnErr, true, Ok, []};
 ghost use Rattle.tt_sql.specs.trees.Built.{built as is_built};
-ghost use Rattle.tt_plain.specs.CreateTable.{column_made, new_table as table_of, with_table};
+ghost use Rattle.tt_plain.specs.CreateTable.{column_made, new_table as table_of};
 ghost use Rattle.tt_plain.specs.Statements.{is_definition};
-ghost use Rattle.tt_plain.specs.Store.{with_ended};
-ghost use Rattle.tt_plain.specs.declared.plain.Plain.{Plain};
-ghost use Rattle.tt_state.specs.Outcomes.{CarriesOut};
+ghost use Rattle.tt_state.specs.Moves.{HasTable, HasCarriedOut, HasDefined};
 ghost use Rattle.tt_state.specs.PlainOf.{plain_of};
 ghost use Rattle.tt_state.specs.Ready.{IsReady};
 
@@ -80,7 +78,7 @@ impl State {
     fn add_table(&mut self, create: &CreatedTable) -> Result<(), AllocError>
         requires few { length self.old.tables.items + 1 < 2 ^ 32 }
         requires moment { self.old.moment + 1 < 2 ^ 64 }
-        ensures ok { OnOk result (plain_of self.new ≡ with_table (plain_of self.old) (self.old.moment + 1) create.now) }
+        ensures ok { OnOk result (HasTable self.old self.new create.now) }
         ensures err { OnErr result (plain_of self.new ≡ plain_of self.old) }
     {
         let alloc = *self.tables.allocator();
@@ -96,7 +94,7 @@ impl State {
         requires definition { is_definition (Ok statement.now) ≡ true }
         requires few { length self.old.tables.items + 1 < 2 ^ 32 }
         requires moment { self.old.moment + 1 < 2 ^ 64 }
-        ensures { CarriesOut (plain_of self.old) statement.now (plain_of self.new) result.0 result.1 }
+        ensures { HasCarriedOut self.old self.new statement.now result }
     {
         let Statement::Create(create) = statement else {
             unreachable!()
@@ -122,8 +120,7 @@ impl State {
         requires definition { is_definition (Ok statement.now) ≡ true }
         requires few { length self.old.tables.items + 1 < 2 ^ 32 }
         requires ready { IsReady program.now (plain_of self.old) session index }
-        ensures { (defined : Plain) × CarriesOut (plain_of self.old) statement.now defined result.0 result.1
-            × (plain_of self.new ≡ with_ended program.now defined (self.old.moment + 1) session index) }
+        ensures { HasDefined program.now self.old self.new session index statement.now result }
     {
         let outcome = self.carry_out(statement);
         self.end_statement(program, session, index);

@@ -8,6 +8,7 @@ ghost use Rattle.tt_sql.specs.declared.statement.Statement.{Statement as Stateme
 ghost use Rattle.tt_sql.specs.declared.statement.Statement.TheVariants as tree;
 ghost use Rattle.tt_plain.specs.NamedTables.{live_at};
 ghost use Rattle.tt_plain.specs.Refusals.{refusal_over};
+ghost use Rattle.tt_state.specs.Tickets.{IsRefusal};
 ghost use Rattle.tt_plain.specs.NamedTables.{IsOnTable};
 
 use tt_history::Refusal;
@@ -42,7 +43,7 @@ pub fn table_for<'a>(
     requires { IsOnTable statement.now name.now }
     ensures found { IfOk result (λ table. live_at tables.now name.now ≡ Some table.now) }
     ensures free { OnOk result (refusal_over tables.now statement.now ≡ None) }
-    ensures refused { IfErr result (λ refusal. refusal_over tables.now statement.now ≡ Some refusal) }
+    ensures refused { IfErr result (IsRefusal tables.now statement.now) }
 {
     let Some(table) = live_table(tables, name) else {
         return Err(Refusal::UnknownTable(table_begin(name)));

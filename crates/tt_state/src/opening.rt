@@ -6,11 +6,11 @@ ghost use Rattle.tt_sql.specs.trees.Built.{built as is_built};
 ghost use Rattle.tt_plain.specs.Refusals.{refusal_over};
 ghost use Rattle.tt_plain.specs.Statements.{is_started};
 ghost use Rattle.tt_plain.specs.Store.{current_rows as rows_of};
-ghost use Rattle.tt_state.specs.Outcomes.{Starts};
+ghost use Rattle.tt_state.specs.Moves.{HasStarted};
 ghost use Rattle.tt_state.specs.PlainOf.{plain_of};
 ghost use Rattle.tt_state.specs.Ready.{IsReady};
-ghost use Rattle.tt_state.specs.NamedTables.{sources_of, target_of};
-ghost use Rattle.tt_state.specs.Tickets.{SeesTables, opened_with, seen_rows, read_table as read_of, written_table as written_of};
+ghost use Rattle.tt_state.specs.NamedTables.{sources_of, target_of, opened_on, IsNamedIn, Sees, IsOpenedAt};
+ghost use Rattle.tt_state.specs.Tickets.{IsRefusal, opened_with, seen_rows, read_table as read_of, written_table as written_of};
 
 use crate::definitions::empty_rows;
 use crate::lookup::table_for;
@@ -63,9 +63,9 @@ enum Named<'a> {
 fn named_table<'a>(tables: &'a [PlainTable], statement: &Statement) -> Result<Named<'a>, Refusal>
     requires built { is_built statement.now ≡ true }
     requires started { is_started (Ok statement.now) ≡ true }
-    ensures sees { IfOk result (λ named. SeesTables tables.now statement.now (sources_of named) (target_of named)) }
+    ensures sees { IfOk result (IsNamedIn tables.now statement.now) }
     ensures free { OnOk result (refusal_over tables.now statement.now ≡ None) }
-    ensures refused { IfErr result (λ refusal. refusal_over tables.now statement.now ≡ Some refusal) }
+    ensures refused { IfErr result (IsRefusal tables.now statement.now) }
 {
     match statement {
         Statement::Query(query) => {
@@ -145,7 +145,7 @@ struct Opening {
 fn make_opening(alloc: Global, index: u32, named: Named<'_>) -> Result<Opening, AllocError>
     ensures sources { IfOk result (λ o. o.sources.items ≡ sources_of named.entry) }
     ensures target { IfOk result (λ o. o.target ≡ target_of named.entry) }
-    ensures seen { IfOk result (λ o. o.seen ≡ opened_with index (sources_of named.entry) (target_of named.entry)) }
+    ensures seen { IfOk result (λ o. o.seen ≡ opened_on index named.entry) }
 {
     let (sources, target) = seen_tables(alloc, named)?;
     let seen = opened(alloc, index, sources.as_slice(), &target)?;
@@ -165,10 +165,10 @@ fn open(
 ) -> Result<Result<Opening, AllocError>, Refusal>
     requires built { is_built statement.now ≡ true }
     requires started { is_started (Ok statement.now) ≡ true }
-    ensures sees { IfOk result (λ made. IfOk made (λ o. SeesTables tables.now statement.now o.sources.items o.target)) }
-    ensures seen { IfOk result (λ made. IfOk made (λ o. o.seen ≡ opened_with index o.sources.items o.target)) }
+    ensures sees { IfOk result (λ made. IfOk made (Sees tables.now statement.now)) }
+    ensures seen { IfOk result (λ made. IfOk made (IsOpenedAt index)) }
     ensures free { OnOk result (refusal_over tables.now statement.now ≡ None) }
-    ensures refused { IfErr result (λ refusal. refusal_over tables.now statement.now ≡ Some refusal) }
+    ensures refused { IfErr result (IsRefusal tables.now statement.now) }
 {
     let named = named_table(tables, statement)?;
     Ok(make_opening(alloc, index, named))
@@ -186,7 +186,7 @@ impl State {
         requires built { is_built statement.now ≡ true }
         requires started { is_started (Ok statement.now) ≡ true }
         requires ready { IsReady program.now (plain_of self.old) session index }
-        ensures { Starts program.now (plain_of self.old) session index statement.now (plain_of self.new) result.0 result.1 }
+        ensures { HasStarted program.now self.old self.new session index statement.now result }
     {
         let alloc = *self.tables.allocator();
         match open(alloc, self.tables.as_slice(), index, statement) {

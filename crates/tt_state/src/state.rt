@@ -1,7 +1,8 @@
 //! What the catalog keeps beside its program and its history, and how a statement begins and ends in it.
 
 ghost use Rattle.std.specs.Prelude.{◌≡◌, ◌+◌, ◌-◌, ◌<◌, ◌≤◌, ◌^◌, length, OnOk, OnErr};
-ghost use Rattle.tt_plain.specs.Store.{point_place, with_ended, with_opened};
+ghost use Rattle.tt_plain.specs.Store.{point_place};
+ghost use Rattle.tt_state.specs.Moves.{HasEnded, HasBegun};
 ghost use Rattle.tt_state.specs.PlainOf.{plain_of};
 ghost use Rattle.tt_state.specs.Ready.{IsReady};
 
@@ -36,7 +37,7 @@ impl State {
     #[tactic(auto, unfolding(tt_plain::specs::Store::with_ended))]
     pub fn end_statement(&mut self, program: &Program, session: u32, index: u32)
         requires { IsReady program.now (plain_of self.old) session index }
-        ensures { plain_of self.new ≡ with_ended program.now (plain_of self.old) (self.old.moment + 1) session index }
+        ensures { HasEnded program.now self.old self.new session index }
     {
         let place = point_index(program, session, index);
         self.moment += 1;
@@ -51,7 +52,7 @@ impl State {
     #[tactic(auto, unfolding(tt_plain::specs::Store::with_opened))]
     pub fn begin_statement(&mut self, program: &Program, session: u32, index: u32, seen: PlainOpen)
         requires { IsReady program.now (plain_of self.old) session index }
-        ensures { plain_of self.new ≡ with_opened program.now (plain_of self.old) (self.old.moment + 1) session index seen }
+        ensures { HasBegun program.now self.old self.new session index seen }
     {
         let place = point_index(program, session, index);
         self.moment += 1;

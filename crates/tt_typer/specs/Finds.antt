@@ -6,13 +6,14 @@ use Rattle.tt_value.specs.trees.Scope.{Scope}
 use Rattle.tt_sql.specs.meaning.Scopes.{query_scope, target_scope}
 use Rattle.tt_sql.specs.declared.query.Query.{Query}
 use Rattle.tt_sql.specs.declared.change.Dml.{Dml}
+use Rattle.tt_sql.specs.declared.change.Insert.{Insert}
 use Rattle.tt_sql.specs.declared.change.Tuple.{Tuple}
 use Rattle.tt_sql.specs.declared.change.Update.{Update}
 use Rattle.tt_sql.specs.declared.change.Delete.{Delete}
 use Rattle.tt_sql.specs.declared.table.CreatedTable.{CreatedTable}
 use Rattle.tt_sql.specs.declared.table.Alter.{Alter}
 use Rattle.tt_sql.specs.declared.statement.Statement.{Statement}
-use Rattle.tt_plain.specs.Places.{each, if_there, leftmost}
+use Rattle.tt_plain.specs.Places.{each, if_there, leftmost, table_begin}
 use Rattle.tt_plain.specs.UnknownColumns.{item_count, unknown_among, unknown_in_query, unknown_in_update, unknown_in_predicate, unknown_in_create, unknown_in_change, unknown_in_dml, unknown_columns}
 use Rattle.tt_plain.specs.WrongCounts.{named_again, width, miscounted_tuple, unless_equal, set_names, defined_names, miscounted_columns, miscounted_dml, wrong_counts}
 use Rattle.tt_plain.specs.TypeMismatches.{misfit_in_tuple, misfit_in_query, misfit_into, misfit_in_update, misfit_in_predicate, misfit_in_dml, type_mismatches}
@@ -41,6 +42,13 @@ select_found target read names place q = finds
     (if_there (named_again target) names ++ unless_equal q.place (item_count read q.selection) (width target names))
     (misfit_in_query read q ++ misfit_into target names read q.selection)
     (if_there (left_out target place) names ++ nulls_in_selection target names q.selection)
+
+-- of an INSERT of written rows, and of one of a query's rows
+abbrev pub insert_found : Schema → Insert → List Tuple → Found
+insert_found target i tuples = values_found target i.columns (table_begin i.table) tuples
+
+abbrev pub insert_select_found : Schema → Scope → Insert → Query → Found
+insert_select_found target read i q = select_found target read i.columns (table_begin i.table) q
 
 abbrev pub update_found : Schema → Update → Found
 update_found schema u = finds (unknown_in_update schema u) (named_again schema (set_names u.sets)) (misfit_in_update schema u) (each (null_set schema) u.sets)

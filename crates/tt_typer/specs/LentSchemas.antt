@@ -1,7 +1,13 @@
--- The schemas that are lent to a check, in order.
-use Rattle.std.specs.Prelude.{List, map}
+-- The schemas that are lent to a check, in order, and what it gives.
+use Rattle.std.specs.Prelude.{◌≡◌, List, map, Some}
 use Rattle.std.specs.Borrow.{Bor}
 use Rattle.tt_value.specs.declared.value.Schema.{Schema}
+use Rattle.tt_sql.specs.declared.statement.Statement.{Statement}
+use Rattle.tt_history.specs.declared.reply.Refusal.{Refusal}
+use Rattle.tt_plain.specs.TypingRefusal.{typing_refusal}
 
 abbrev pub lent : List (Bor Schema) → List Schema
 lent schemas = map (λ (schema : Bor Schema). schema.now) schemas
+
+abbrev pub IsTypingRefusal : List Schema → Statement → Refusal → Type 0
+IsTypingRefusal schemas statement refusal = typing_refusal schemas statement ≡ Some refusal

@@ -3,7 +3,7 @@
 ghost use Rattle.std.specs.Prelude.{◌≡◌, length, None, Some, OnOk, IfErr};
 ghost use Rattle.tt_plain.specs.Tables.{tables_of, IsOverOneTable};
 ghost use Rattle.tt_plain.specs.TypingRefusal.{typing_refusal};
-ghost use Rattle.tt_typer.specs.LentSchemas.{lent};
+ghost use Rattle.tt_typer.specs.LentSchemas.{lent, IsTypingRefusal};
 
 use crate::found::in_statement;
 use tt_history::Refusal;
@@ -21,7 +21,7 @@ pub fn check(statement: &Statement, schemas: &[&Schema]) -> Result<(), Refusal>
     requires tables { length schemas.now ≡ length (tables_of statement.now) }
     requires alone { IsOverOneTable statement.now }
     ensures ok { OnOk result (typing_refusal (lent schemas.now) statement.now ≡ None) }
-    ensures refused { IfErr result (λ refusal. typing_refusal (lent schemas.now) statement.now ≡ Some refusal) }
+    ensures refused { IfErr result (IsTypingRefusal (lent schemas.now) statement.now) }
 {
     let found = in_statement(schemas, statement);
     if let Some(place) = found.unknown {

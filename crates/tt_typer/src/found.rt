@@ -2,7 +2,6 @@
 
 ghost use Rattle.std.specs.Prelude.{◌≡◌, ◌<◌, length, []};
 ghost use Rattle.tt_sql.specs.meaning.Scopes.{query_tables};
-ghost use Rattle.tt_plain.specs.Places.{table_begin as begin_of};
 ghost use Rattle.tt_plain.specs.Tables.{tables_of, dml_tables, schema_at, ReadsOneTable, IsOverOneTable};
 ghost use Rattle.tt_typer.specs.LentSchemas.{lent};
 ghost use Rattle.tt_typer.specs.TableScopes.{scope_in};
@@ -53,7 +52,7 @@ fn in_query(scope: &TableScope<'_>, query: &Query) -> Found
 
 #[tactic(auto, using(crate::proofs::Leftmost::leftmost_append))]
 fn in_values(target: &Schema, insert: &Insert, tuples: &[Tuple]) -> Found
-    ensures { result ≡ spec.values_found target.now insert.now.columns (begin_of insert.now.table) tuples.now }
+    ensures { result ≡ spec.insert_found target.now insert.now tuples.now }
 {
     let names = &insert.columns;
     let again = listed_again(target, names);
@@ -68,7 +67,7 @@ fn in_values(target: &Schema, insert: &Insert, tuples: &[Tuple]) -> Found
 
 #[tactic(auto, using(crate::proofs::Leftmost::leftmost_append))]
 fn in_select(target: &Schema, read: &TableScope<'_>, insert: &Insert, query: &Query) -> Found
-    ensures { result ≡ spec.select_found target.now (scope_in read.now) insert.now.columns (begin_of insert.now.table) query.now }
+    ensures { result ≡ spec.insert_select_found target.now (scope_in read.now) insert.now query.now }
 {
     let names = &insert.columns;
     let again = listed_again(target, names);
