@@ -1,3 +1,4 @@
 pub mod Body
 pub mod Packing
 pub mod Reading
+pub mod Steps

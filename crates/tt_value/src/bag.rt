@@ -30,7 +30,7 @@ impl Model for Bag {
 
 /// A bag has the copies that were put in, the copies of both, or what is left of them, and is sorted.
 pub fn bags_keep_copies()
-    ensures of { (row : Row) (rows : List Row) → copies_of row (bag_of rows) ≡ copies_of row rows }
+    ensures of { (row : _) (rows : _) → copies_of row (bag_of rows) ≡ copies_of row rows }
     ensures plus { (row : Row) (a b : List Row) →
         copies_of row (bag_plus a b) ≡ copies_of row a + copies_of row b }
     ensures minus { (row : Row) (a b : List Row) →
