@@ -1,5 +1,7 @@
 -- Reading a column of texts, with the place of the first fault.
 use Rattle.std.specs.Prelude.{◌≡◌, ℕ, zero, suc, ◌+◌, ◌-◌, Bool, ◌&&◌, ◌==◌, nat_lt, if◌then◌else◌, List, length, take, drop, Option, is_none, Result, Ok, Err}
+use Rattle.std.specs.Borrow.{Bor}
+use Rattle.std.specs.Global.{Vec}
 use Rattle.std.specs.List.{position}
 use Rattle.std.specs.Int.{w16}
 use Rattle.std.specs.Str.{is_utf8}
@@ -23,6 +25,17 @@ FailsPart (part_errors.At place) read = read ≡ Err place
 abbrev pub GivesPart : {X Y : Type 0} → (X → Y) → Result X PartError → Result Y ℕ → Type 0
 GivesPart view (Ok x) read = read ≡ Ok (view x)
 GivesPart view (Err e) read = FailsPart e read
+
+-- the same of one thing or of a list, and of what stands behind it
+abbrev pub GivesOne : {V : Type 0} → Result (V × Bor (List ℕ)) PartError → Result (V × List ℕ) ℕ → Type 0
+GivesOne result read = GivesPart (λ x. (x.0, x.1.now)) result read
+
+abbrev pub GivesList : {V : Type 0} → Result (Vec V × Bor (List ℕ)) PartError → Result (List V × List ℕ) ℕ → Type 0
+GivesList result read = GivesPart (λ x. (x.0.items, x.1.now)) result read
+
+-- the same of a list behind which nothing stands
+abbrev pub GivesWhole : {V : Type 0} → Result (Vec V) PartError → Result (List V) ℕ → Type 0
+GivesWhole result read = GivesPart (λ v. v.items) result read
 
 -- The same of a column, whose fault says also whether it is at the byte of the encoding.
 abbrev pub Fails : {Y : Type 0} → DecodeError → Result Y BadColumn → Type 0
@@ -82,3 +95,7 @@ rows_of rows column = do
   flags ← in_column (flags_at rows column.nulls column.bitmap)
   vs ← values_in e (length column.bitmap + length column.body) (present_count flags) column.body
   Ok (spread flags vs)
+
+-- the rows of a column of these bytes
+abbrev pub rows_in : ℕ → ℕ → Bool → List ℕ → List ℕ → Result (List (Option (List ℕ))) BadColumn
+rows_in rows encoding nulls bitmap body = rows_of rows (column_with encoding nulls bitmap body)

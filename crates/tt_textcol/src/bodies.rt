@@ -3,7 +3,7 @@
 ghost use Rattle.std.specs.Prelude.{◌≡◌, ◌+◌, ◌-◌, ◌*◌, ◌^◌, ◌<◌, ◌≤◌, ◌++◌, length, map, IfOk, OnOk, List};
 ghost use Rattle.std.specs.List.{flat_map};
 ghost use Rattle.tt_value.specs.columns.Body.{run_bytes, runs_of, distinct, index_in};
-ghost use Rattle.tt_textcol.specs.TextBody.{text_bytes, text_cmp, body};
+ghost use Rattle.tt_textcol.specs.TextBody.{text_bytes, text_cmp, runs_bytes, HasEntries, body};
 
 use crate::encoding::Encoding;
 use crate::text_ref::TextRef;
@@ -61,7 +61,7 @@ fn runs<'a>(alloc: Global, values: &[TextRef<'a>]) -> Result<Vec<(TextRef<'a>, u
 }
 
 fn push_runs(out: &mut Vec<u8>, runs: &[(TextRef<'_>, u32)]) -> Result<(), AllocError>
-    ensures { OnOk result (out.new.items ≡ out.old.items ++ flat_map (run_bytes text_bytes text_cmp) runs.now) }
+    ensures { OnOk result (out.new.items ≡ out.old.items ++ runs_bytes runs.now) }
 {
     for run in runs {
         push_text(out, &run.0)?;
@@ -125,7 +125,7 @@ pub fn body_of<'a>(
     encoding: Encoding,
 ) -> Result<Vec<u8>, AllocError>
     requires few { length values.now < 2 ^ 32 }
-    requires distinct { encoding ≡ Encoding.Dictionary → entries.now ≡ distinct text_cmp values.now }
+    requires distinct { HasEntries encoding values.now entries.now }
     ensures { IfOk result (λ v. v.items ≡ body values.now encoding) }
 {
     match encoding {

@@ -4,7 +4,7 @@ ghost use Rattle.std.specs.Prelude.{◌≡◌, ◌≢◌, ◌==◌, ◌+◌, ◌
 ghost use Rattle.std.specs.List.{flat_map};
 ghost use Rattle.tt_value.specs.columns.Body.{runs_of, distinct, index_in};
 ghost use Rattle.tt_value.specs.columns.Packing.{bytes_for, width_of};
-ghost use Rattle.tt_textcol.specs.TextBody.{text_bytes, text_cmp, body, code, encoding_of};
+ghost use Rattle.tt_textcol.specs.TextBody.{distinct_count, distinct_bytes, GivesDictionary, IsBestBesideDictionary, HasEntries, is_encoding_of, text_bytes, text_cmp, body, code, encoding_of};
 ghost use Rattle.tt_textcol.specs.TextNumber.{text_number, number_in};
 
 use crate::encoding::Encoding;
@@ -141,8 +141,8 @@ fn dictionary_length(values: usize, entries: Entries) -> u128
 /// text, so that few distinct ones share a number. Counting ends where a dictionary of so many is not
 /// shorter than `most` bytes.
 fn numbered(alloc: Global, most: u128, values: &[TextRef<'_>]) -> Result<Entries, AllocError>
-    ensures count { IfOk result (λ entries. entries.count ≤ length (distinct text_cmp values.now)) }
-    ensures bytes { IfOk result (λ entries. entries.bytes ≤ length (flat_map text_bytes (distinct text_cmp values.now))) }
+    ensures count { IfOk result (λ entries. entries.count ≤ distinct_count values.now) }
+    ensures bytes { IfOk result (λ entries. entries.bytes ≤ distinct_bytes values.now) }
     ensures few { IfOk result (λ entries. entries.bytes ≤ 65537 * length values.now) }
 {
     let size = values.len().saturating_mul(16).saturating_add(1);
@@ -169,7 +169,7 @@ fn dictionary<'a>(
     bytes: u128,
     values: &[TextRef<'a>],
 ) -> Result<Option<Vec<TextRef<'a>>>, AllocError>
-    ensures { IfOk result (λ entries. MatchOption entries (nat_lt (length (body values.now Encoding.Dictionary)) bytes ≡ false) (λ v. (nat_lt (length (body values.now Encoding.Dictionary)) bytes ≡ true) × (v.items ≡ distinct text_cmp values.now))) }
+    ensures { IfOk result (λ entries. GivesDictionary values.now bytes entries) }
 {
     let few = numbered(alloc, bytes, values)?;
     if dictionary_length(values.len(), few) >= bytes {
@@ -188,7 +188,7 @@ fn dictionary<'a>(
 
 /// The shortest form but for the dictionary, of equal ones that of the least code.
 fn without_dictionary(values: &[TextRef<'_>]) -> Length
-    ensures shortest { (if nat_lt (length (body values.now Encoding.Dictionary)) result.bytes then Encoding.Dictionary else result.encoding) ≡ encoding_of values.now }
+    ensures shortest { IsBestBesideDictionary values.now result.bytes result.encoding }
     ensures other { result.encoding ≢ Encoding.Dictionary }
 {
     let plain = Length {
@@ -209,7 +209,7 @@ pub fn encoding_of<'a>(
     values: &[TextRef<'a>],
 ) -> Result<(Encoding, Vec<TextRef<'a>>), AllocError>
     ensures encoding { IfOk result (λ x. x.0 ≡ encoding_of values.now) }
-    ensures entries { IfOk result (λ x. x.0 ≡ Encoding.Dictionary → x.1.items ≡ distinct text_cmp values.now) }
+    ensures entries { IfOk result (λ x. HasEntries x.0 values.now x.1.items) }
 {
     let best = without_dictionary(values);
     match dictionary(alloc, best.bytes, values)? {
@@ -226,7 +226,7 @@ pub fn is_shortest(
     values: &[TextRef<'_>],
 ) -> Result<bool, AllocError>
     requires { bytes ≡ length (body values.now encoding) }
-    ensures { IfOk result (λ shortest. shortest ≡ (code (encoding_of values.now) == code encoding)) }
+    ensures { IfOk result (λ shortest. shortest ≡ is_encoding_of values.now encoding) }
 {
     if encoding == Encoding::Dictionary {
         return Ok((bytes as u128) < without_dictionary(values).bytes);

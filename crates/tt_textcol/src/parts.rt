@@ -6,7 +6,8 @@ ghost use Rattle.std.specs.Int.{w16, w32};
 ghost use Rattle.tt_value.specs.values.Texts.{is_control as control_test};
 ghost use Rattle.tt_value.specs.columns.Packing.{bytes_for};
 ghost use Rattle.tt_value.specs.columns.Reading.{number_at, packed_at, count_at};
-ghost use Rattle.tt_textcol.specs.TextReading.{GivesPart, is_text, text_at};
+ghost use Rattle.tt_value.specs.columns.Steps.{SomeWhere};
+ghost use Rattle.tt_textcol.specs.TextReading.{GivesOne, GivesList, is_text, text_at};
 ghost use Rattle.tt_textcol.specs.declared.parts.PartError.TheVariants as part_errors;
 
 use crate::text_ref::TextRef;
@@ -51,7 +52,7 @@ pub fn bad(place: u64) -> PartError
 }
 
 fn read_u16(end: u64, bytes: &[u8]) -> Result<(u16, &[u8]), PartError>
-    ensures { GivesPart (λ x. (x.0, x.1.now)) result (number_at w16 end bytes.now) }
+    ensures { GivesOne result (number_at w16 end bytes.now) }
 {
     if bytes.len() < 2 {
         return Err(bad(end));
@@ -64,7 +65,7 @@ fn read_u16(end: u64, bytes: &[u8]) -> Result<(u16, &[u8]), PartError>
 /// Four bytes, the least significant first, and what stands behind them. Where there are fewer the fault is at
 /// `end`.
 pub fn read_u32(end: u64, bytes: &[u8]) -> Result<(u32, &[u8]), PartError>
-    ensures { GivesPart (λ x. (x.0, x.1.now)) result (number_at w32 end bytes.now) }
+    ensures { GivesOne result (number_at w32 end bytes.now) }
 {
     if bytes.len() < 4 {
         return Err(bad(end));
@@ -89,7 +90,7 @@ fn first_control(bytes: &[u8]) -> Option<usize>
 /// These bytes as a text, where they are one that a column may hold.
 fn text_of(bytes: &[u8]) -> Option<TextRef<'_>>
     requires { length bytes.now ≤ 65535 }
-    ensures { MatchOption result (is_text bytes.now ≡ false) (λ t. (is_text bytes.now ≡ true) × (t ≡ bytes.now)) }
+    ensures { SomeWhere (is_text bytes.now) (λ t. t) bytes.now result }
 {
     let Ok(text) = str::from_utf8(bytes) else {
         return None;
@@ -103,7 +104,7 @@ fn text_of(bytes: &[u8]) -> Option<TextRef<'_>>
 /// A text with its length.
 #[tactic(auto, unfolding(crate::specs::TextReading::text_at))]
 pub fn read_text(end: u64, bytes: &[u8]) -> Result<(TextRef<'_>, &[u8]), PartError>
-    ensures { GivesPart (λ x. (x.0, x.1.now)) result (text_at end bytes.now) }
+    ensures { GivesOne result (text_at end bytes.now) }
 {
     let (length, rest) = read_u16(end, bytes)?;
     let length = length as usize;
@@ -120,7 +121,7 @@ pub fn read_text(end: u64, bytes: &[u8]) -> Result<(TextRef<'_>, &[u8]), PartErr
 /// A number of runs or of distinct values.
 #[tactic(auto, unfolding(tt_value::specs::columns::Reading::count_at))]
 pub fn read_count(end: u64, most: usize, bytes: &[u8]) -> Result<(u32, &[u8]), PartError>
-    ensures { GivesPart (λ x. (x.0, x.1.now)) result (count_at end most bytes.now) }
+    ensures { GivesOne result (count_at end most bytes.now) }
 {
     let (count, rest) = read_u32(end, bytes)?;
     if count as usize > most || (count == 0 && most != 0) {
@@ -147,7 +148,7 @@ pub fn read_packed(
     bytes: &[u8],
 ) -> Result<(Vec<u64>, &[u8]), PartError>
     requires { width ≤ 64 }
-    ensures { GivesPart (λ x. (x.0.items, x.1.now)) result (packed_at end width count bytes.now) }
+    ensures { GivesList result (packed_at end width count bytes.now) }
 {
     let size = packed_size(count, width);
     if (bytes.len() as u128) < size {

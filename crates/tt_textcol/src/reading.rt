@@ -5,7 +5,8 @@ ghost use Rattle.std.specs.List.{list_all};
 ghost use Rattle.std.specs.Option.{option_map};
 ghost use Rattle.tt_value.specs.columns.Reading.{is_new, is_next, uses_each, values_of, looked_up, dictionary_values_at, packed_at, values_at, run_at, runs_at, run_values_at, entry_at, entries_at};
 ghost use Rattle.tt_textcol.specs.TextBody.{text_cmp};
-ghost use Rattle.tt_textcol.specs.TextReading.{GivesPart, text_at};
+ghost use Rattle.tt_value.specs.columns.Steps.{HasItems};
+ghost use Rattle.tt_textcol.specs.TextReading.{GivesOne, GivesList, GivesWhole, text_at};
 
 use crate::parts::{PartError, bad, place, read_count, read_packed, read_text, read_u32};
 use crate::text_ref::TextRef;
@@ -19,7 +20,7 @@ pub fn read_values(
     count: usize,
     bytes: &[u8],
 ) -> Result<(Vec<TextRef<'_>>, &[u8]), PartError>
-    ensures { GivesPart (λ x. (x.0.items, x.1.now)) result (values_at text_at text_cmp end count bytes.now) }
+    ensures { GivesList result (values_at text_at text_cmp end count bytes.now) }
 {
     let mut values = Vec::with_capacity(alloc, count.min(bytes.len()))?;
     let mut rest = bytes;
@@ -49,7 +50,7 @@ fn read_run<'a>(
     before: &Option<TextRef<'a>>,
     bytes: &'a [u8],
 ) -> Result<((TextRef<'a>, u32), &'a [u8]), PartError>
-    ensures found { GivesPart (λ x. (x.0, x.1.now)) result (run_at text_at text_cmp end later left before.now bytes.now) }
+    ensures run { GivesOne result (run_at text_at text_cmp end later left before.now bytes.now) }
     ensures within { IfOk result (λ x. x.0.1 ≤ left) }
 {
     let (value, rest) = read_text(end, bytes)?;
@@ -85,7 +86,7 @@ fn read_runs(
     most: usize,
     bytes: &[u8],
 ) -> Result<(Vec<TextRef<'_>>, &[u8]), PartError>
-    ensures { GivesPart (λ x. (x.0.items, x.1.now)) result (runs_at text_at text_cmp end count most None bytes.now) }
+    ensures { GivesList result (runs_at text_at text_cmp end count most None bytes.now) }
 {
     let mut values = Vec::with_capacity(alloc, most)?;
     let mut rest = bytes;
@@ -109,7 +110,7 @@ pub fn read_run_values(
     most: usize,
     bytes: &[u8],
 ) -> Result<(Vec<TextRef<'_>>, &[u8]), PartError>
-    ensures { GivesPart (λ x. (x.0.items, x.1.now)) result (run_values_at text_at text_cmp end most bytes.now) }
+    ensures { GivesList result (run_values_at text_at text_cmp end most bytes.now) }
 {
     let (count, rest) = read_count(end, most, bytes)?;
     read_runs(alloc, end, count, most, rest)
@@ -131,7 +132,7 @@ fn read_entry<'a>(
     before: &Option<TextRef<'a>>,
     bytes: &'a [u8],
 ) -> Result<(TextRef<'a>, &'a [u8]), PartError>
-    ensures { GivesPart (λ x. (x.0, x.1.now)) result (entry_at text_at text_cmp end before.now bytes.now) }
+    ensures { GivesOne result (entry_at text_at text_cmp end before.now bytes.now) }
 {
     let (value, rest) = read_text(end, bytes)?;
     if !is_below(before, &value) {
@@ -147,7 +148,7 @@ pub fn read_entries(
     count: u32,
     bytes: &[u8],
 ) -> Result<(Vec<TextRef<'_>>, &[u8]), PartError>
-    ensures { GivesPart (λ x. (x.0.items, x.1.now)) result (entries_at text_at text_cmp end count None bytes.now) }
+    ensures { GivesList result (entries_at text_at text_cmp end count None bytes.now) }
 {
     let mut values = Vec::with_capacity(alloc, (count as usize).min(bytes.len()))?;
     let mut rest = bytes;
@@ -187,7 +188,7 @@ fn values_at_indexes<'a>(
     entries: &[TextRef<'a>],
     indexes: &[u64],
 ) -> Result<Option<Vec<TextRef<'a>>>, AllocError>
-    ensures { IfOk result (λ found. option_map (λ v. v.items) found ≡ values_of entries.now indexes.now) }
+    ensures { IfOk result (λ found. HasItems found (values_of entries.now indexes.now)) }
 {
     let mut values = Vec::with_capacity(alloc, indexes.len())?;
     for index in indexes {
@@ -207,7 +208,7 @@ fn look_up<'a>(
     entries: &[TextRef<'a>],
     indexes: &[u64],
 ) -> Result<Vec<TextRef<'a>>, PartError>
-    ensures { GivesPart (λ v. v.items) result (looked_up place entries.now indexes.now) }
+    ensures { GivesWhole result (looked_up place entries.now indexes.now) }
 {
     match values_at_indexes(alloc, entries, indexes)? {
         None => Err(bad(place)),
@@ -228,7 +229,7 @@ pub fn read_dictionary_values(
     most: usize,
     bytes: &[u8],
 ) -> Result<(Vec<TextRef<'_>>, &[u8]), PartError>
-    ensures { GivesPart (λ x. (x.0.items, x.1.now)) result (dictionary_values_at text_at text_cmp end most bytes.now) }
+    ensures { GivesList result (dictionary_values_at text_at text_cmp end most bytes.now) }
 {
     let (count, rest) = read_count(end, most, bytes)?;
     let (entries, rest) = read_entries(alloc, end, count, rest)?;

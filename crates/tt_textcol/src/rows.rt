@@ -4,8 +4,9 @@ ghost use Rattle.std.specs.Prelude.{◌≡◌, ◌+◌, ◌-◌, ◌*◌, ◌^�
 ghost use Rattle.std.specs.List.{list_any, AllByRecursion};
 ghost use Rattle.tt_value.specs.columns.Body.{present};
 ghost use Rattle.tt_value.specs.columns.Reading.{flags_at, has_flag, present_count, spread};
-ghost use Rattle.tt_textcol.specs.TextBody.{body, encoding_of, column_of, IsValue};
-ghost use Rattle.tt_textcol.specs.TextReading.{Gives, GivesPart, encoding_at, body_at, whole_body, values_in, column_with, rows_of};
+ghost use Rattle.tt_textcol.specs.TextBody.{body, encoding_of, IsColumnOf, IfColumnOf};
+ghost use Rattle.tt_value.specs.columns.Steps.{IsNextRow};
+ghost use Rattle.tt_textcol.specs.TextReading.{Gives, GivesList, GivesWhole, encoding_at, body_at, whole_body, values_in, rows_in, rows_of};
 
 use crate::choice;
 use crate::column::{DecodeError, TextColumn};
@@ -43,7 +44,7 @@ fn has_flag(flags: &[u64]) -> bool
 /// The flags of a bitmap: 1 for NULL.
 #[tactic(auto, unfolding(tt_value::specs::columns::Reading::flags_at))]
 fn read_flags(alloc: Global, rows: u32, nulls: bool, bitmap: &[u8]) -> Result<Vec<u64>, PartError>
-    ensures { GivesPart (λ v. v.items) result (flags_at rows nulls bitmap.now) }
+    ensures { GivesWhole result (flags_at rows nulls bitmap.now) }
 {
     if !nulls {
         if !bitmap.is_empty() {
@@ -81,7 +82,7 @@ fn row_at(
     values: &[TextRef<'_>],
     at: usize,
 ) -> Result<(Option<Text>, usize), AllocError>
-    ensures { IfOk result (λ x. (flags : List ℕ) → spread (flag ∷ flags) (drop at values.now) ≡ x.0 ∷ spread flags (drop x.1 values.now)) }
+    ensures { IfOk result (λ x. IsNextRow flag (drop at values.now) x.0 (drop x.1 values.now)) }
 {
     match values.get(at) {
         None => Ok((None, at)),
@@ -119,7 +120,7 @@ fn read_body(
     count: usize,
     bytes: &[u8],
 ) -> Result<(Vec<TextRef<'_>>, &[u8]), PartError>
-    ensures { GivesPart (λ x. (x.0.items, x.1.now)) result (body_at encoding end count bytes.now) }
+    ensures { GivesList result (body_at encoding end count bytes.now) }
 {
     match encoding {
         Encoding::Plain => read_values(alloc, end, count, bytes),
@@ -137,7 +138,7 @@ fn read_whole(
     count: usize,
     bytes: &[u8],
 ) -> Result<Vec<TextRef<'_>>, PartError>
-    ensures values { GivesPart (λ v. v.items) result (whole_body encoding end count bytes.now) }
+    ensures values { GivesWhole result (whole_body encoding end count bytes.now) }
     ensures length { IfOk result (λ v. length bytes.now ≡ length (body v.items encoding)) }
 {
     bytes_fit(bytes);
@@ -176,7 +177,7 @@ pub fn decode_parts(
     bitmap: &[u8],
     body: &[u8],
 ) -> Result<Vec<Option<Text>>, DecodeError>
-    ensures { Gives (λ v. v.items) result (rows_of rows (column_with encoding nulls bitmap.now body.now)) }
+    ensures { Gives (λ v. v.items) result (rows_in rows encoding nulls bitmap.now body.now) }
 {
     let encoding = read_encoding(encoding)?;
     let flags = read_flags(alloc, rows, nulls, bitmap)?;
@@ -193,11 +194,11 @@ pub fn decode(
     column: &TextColumn,
 ) -> Result<Vec<Option<Text>>, DecodeError>
     // The column of some rows is read as these rows.
-    ensures again { (vs : List (Option (List ℕ))) → AllByRecursion IsValue (present vs) → length vs ≡ rows → column.now ≡ column_of vs → Gives (λ v. v.items) result (Ok vs) }
+    ensures again { IfColumnOf rows column.now (λ vs. Gives (λ v. v.items) result (Ok vs)) }
     // Which rows they are, or which place it is; only want of memory is free.
     ensures exact { Gives (λ v. v.items) result (rows_of rows column.now) }
     // What is read are so many rows, of values, and the column is their column.
-    ensures only { IfOk result (λ v. (column.now ≡ column_of v.items) × (length v.items ≡ rows) × AllByRecursion IsValue (present v.items)) }
+    ensures only { IfOk result (λ v. IsColumnOf rows v.items column.now) }
 {
     let bitmap = column.bitmap.items();
     let body = column.body.items();
