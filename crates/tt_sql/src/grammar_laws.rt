@@ -4,7 +4,7 @@ ghost use Rattle.std.specs.Prelude.{◌≡◌, ℕ, List, [], ◌∷◌, ◌++�
 ghost use Rattle.tt_lex.specs.declared.Token.{Token};
 ghost use Rattle.std.specs.Prelude.{pos, neg_ℤ};
 ghost use Rattle.tt_sql.specs.grammar.Grammar.{Lexeme, Mark, Way, At, Said, Meant};
-ghost use Rattle.tt_sql.specs.grammar.Examples.{word, number, text, sign, deep, Notes, Faults};
+ghost use Rattle.tt_sql.specs.grammar.Examples.{tokens, ways, from_t, column_item, number_item, equals, deep, Notes, Faults};
 ghost use Rattle.tt_sql.specs.grammar.Lexemes.{AreKinds};
 ghost use Rattle.tt_sql.specs.grammar.Statements.{IsStatement, HasFaultAt};
 ghost use Rattle.tt_sql.specs.machine.Reading.{read_run};
@@ -15,23 +15,27 @@ ghost use Rattle.tt_sql.specs.grammar.KindExamples.{words_in_order, signs_in_ord
 /// A machine that looks at one token at a time reads just the statements of the grammar as it is written, with
 /// at most so many open levels. Where the tokens are none it stops at the place of their fault.
 pub fn statements_are_read_exactly()
-    ensures found { (levels end : ℕ) (ts : List Lexeme) (m : List Mark) → read_run levels end ts ≡ Ok m → IsStatement levels m ts }
-    ensures only { (levels end : ℕ) (ts : List Lexeme) (m : List Mark) → AreKinds kind_count ts → IsStatement levels m ts
-        → read_run levels end ts ≡ Ok m }
-    ensures place { (levels end : ℕ) (ts : List Lexeme) (at : ℕ) → AreKinds kind_count ts → read_run levels end ts ≡ Err at
-        → HasFaultAt levels end ts at }
-    ensures only_place { (levels end : ℕ) (ts : List Lexeme) (at : ℕ) → AreKinds kind_count ts → HasFaultAt levels end ts at
-        → read_run levels end ts ≡ Err at }
+    ensures found { (levels end : ℕ) (ts : List Lexeme) (m : List Mark)
+        → read_run levels end ts ≡ Ok m → IsStatement levels m ts }
+    ensures only { (levels end : ℕ) (ts : List Lexeme) (m : List Mark)
+        → AreKinds kind_count ts → IsStatement levels m ts → read_run levels end ts ≡ Ok m }
+    ensures place { (levels end : ℕ) (ts : List Lexeme) (at : ℕ)
+        → AreKinds kind_count ts → read_run levels end ts ≡ Err at → HasFaultAt levels end ts at }
+    ensures only_place { (levels end : ℕ) (ts : List Lexeme) (at : ℕ)
+        → AreKinds kind_count ts → HasFaultAt levels end ts at → read_run levels end ts ≡ Err at }
 {}
 
 /// Tokens are a statement in one way, or have one fault, and never both. The tokens of a text are of the kinds
 /// that the grammar knows.
 pub fn tokens_have_one_reading()
-    ensures derivation { (levels : ℕ) (ts : List Lexeme) (m n : List Mark) → AreKinds kind_count ts → IsStatement levels m ts
-        → IsStatement levels n ts → m ≡ n }
-    ensures fault { (levels end : ℕ) (ts : List Lexeme) (a b : ℕ) → HasFaultAt levels end ts a → HasFaultAt levels end ts b → a ≡ b }
-    ensures not_both { (levels end : ℕ) (ts : List Lexeme) (m : List Mark) (at : ℕ) → HasFaultAt levels end ts at → ¬ (IsStatement levels m ts) }
-    ensures known { (text : List ℕ) (tokens : List Token) → AreKinds kind_count (lexemes text tokens) }
+    ensures derivation { (levels : ℕ) (ts : List Lexeme) (m n : List Mark)
+        → AreKinds kind_count ts → IsStatement levels m ts → IsStatement levels n ts → m ≡ n }
+    ensures fault { (levels end : ℕ) (ts : List Lexeme) (a b : ℕ)
+        → HasFaultAt levels end ts a → HasFaultAt levels end ts b → a ≡ b }
+    ensures not_both { (levels end : ℕ) (ts : List Lexeme) (m : List Mark) (at : ℕ)
+        → HasFaultAt levels end ts at → ¬ (IsStatement levels m ts) }
+    ensures known { (text : List ℕ) (tokens : List Token)
+        → AreKinds kind_count (lexemes text tokens) }
     ensures meant { (text : List ℕ) → unquoted (spelling (Quoted text)) ≡ text }
 {}
 
@@ -66,52 +70,50 @@ pub fn kinds_by_example()
 
 /// Statements and what their derivations note: the places, the names and the ways that were taken.
 pub fn statements_by_example()
-    // SELECT * FROM t
-    ensures star { Notes 256 (word (codes "SELECT") ∷ sign (codes "*") ∷ word (codes "FROM") ∷ word (codes "t") ∷ []) (At 0 ∷ At 7 ∷ Way 0 ∷ Said (codes "T") 14 ∷ Way 0 ∷ Way 0 ∷ Way 0 ∷ Way 0 ∷ Way 0 ∷ Way 0 ∷ []) }
-    // SELECT count ( * ) FROM t
-    ensures count_all { Notes 256 (word (codes "SELECT") ∷ word (codes "count") ∷ sign (codes "(") ∷ sign (codes "*") ∷ sign (codes ")") ∷ word (codes "FROM") ∷ word (codes "t") ∷ []) (At 0 ∷ At 7 ∷ Way 4 ∷ Way 0 ∷ Way 1 ∷ Said (codes "T") 24 ∷ Way 0 ∷ Way 0 ∷ Way 0 ∷ Way 0 ∷ Way 0 ∷ Way 0 ∷ []) }
-    // SELECT count FROM t
-    ensures count_is_a_name { Notes 256 (word (codes "SELECT") ∷ word (codes "count") ∷ word (codes "FROM") ∷ word (codes "t") ∷ []) (At 0 ∷ Said (codes "COUNT") 7 ∷ Way 1 ∷ Way 0 ∷ Way 0 ∷ Way 0 ∷ Way 0 ∷ Way 1 ∷ Said (codes "T") 18 ∷ Way 0 ∷ Way 0 ∷ Way 0 ∷ Way 0 ∷ Way 0 ∷ Way 0 ∷ []) }
-    // SELECT - 9223372036854775808 FROM t
-    ensures least_number { Notes 256 (word (codes "SELECT") ∷ sign (codes "-") ∷ number (codes "9223372036854775808") ∷ word (codes "FROM") ∷ word (codes "t") ∷ []) (At 0 ∷ Meant (neg_ℤ (pos 9223372036854775808)) 7 ∷ Way 1 ∷ Way 0 ∷ Way 0 ∷ Way 0 ∷ Way 0 ∷ Way 0 ∷ Way 1 ∷ Said (codes "T") 34 ∷ Way 0 ∷ Way 0 ∷ Way 0 ∷ Way 0 ∷ Way 0 ∷ Way 0 ∷ []) }
-    // SELECT - 5 FROM t
-    ensures minus_of_a_number_opens_no_level { Notes 0 (word (codes "SELECT") ∷ sign (codes "-") ∷ number (codes "5") ∷ word (codes "FROM") ∷ word (codes "t") ∷ []) (At 0 ∷ Meant (neg_ℤ (pos 5)) 7 ∷ Way 1 ∷ Way 0 ∷ Way 0 ∷ Way 0 ∷ Way 0 ∷ Way 0 ∷ Way 1 ∷ Said (codes "T") 16 ∷ Way 0 ∷ Way 0 ∷ Way 0 ∷ Way 0 ∷ Way 0 ∷ Way 0 ∷ []) }
-    // SELECT * FROM information_schema . table_storage_metrics
-    ensures view_of_storage { Notes 256 (word (codes "SELECT") ∷ sign (codes "*") ∷ word (codes "FROM") ∷ word (codes "information_schema") ∷ sign (codes ".") ∷ word (codes "table_storage_metrics") ∷ []) (Way 17 ∷ []) }
-    // DELETE FROM t WHERE NOT x = 1 AND y = 2
-    ensures not_and { Notes 256 (word (codes "DELETE") ∷ word (codes "FROM") ∷ word (codes "t") ∷ word (codes "WHERE") ∷ word (codes "NOT") ∷ word (codes "x") ∷ sign (codes "=") ∷ number (codes "1") ∷ word (codes "AND") ∷ word (codes "y") ∷ sign (codes "=") ∷ number (codes "2") ∷ []) (Said (codes "T") 12 ∷ Way 7 ∷ Said (codes "X") 24 ∷ Way 0 ∷ Way 0 ∷ Meant (pos 1) 28 ∷ Way 1 ∷ Way 1 ∷ Way 2 ∷ Way 1 ∷ Said (codes "Y") 34 ∷ Way 0 ∷ Way 0 ∷ Meant (pos 2) 38 ∷ Way 1 ∷ Way 1 ∷ Way 2 ∷ Way 0 ∷ Way 0 ∷ Way 1 ∷ Way 3 ∷ []) }
-    // DELETE FROM t WHERE x = 1 OR y = 2
-    ensures either { Notes 256 (word (codes "DELETE") ∷ word (codes "FROM") ∷ word (codes "t") ∷ word (codes "WHERE") ∷ word (codes "x") ∷ sign (codes "=") ∷ number (codes "1") ∷ word (codes "OR") ∷ word (codes "y") ∷ sign (codes "=") ∷ number (codes "2") ∷ []) (Said (codes "T") 12 ∷ Said (codes "X") 20 ∷ Way 0 ∷ Way 0 ∷ Meant (pos 1) 24 ∷ Way 1 ∷ Way 1 ∷ Way 2 ∷ Way 0 ∷ Way 1 ∷ Said (codes "Y") 29 ∷ Way 0 ∷ Way 0 ∷ Meant (pos 2) 33 ∷ Way 1 ∷ Way 1 ∷ Way 2 ∷ Way 0 ∷ Way 0 ∷ Way 1 ∷ Way 3 ∷ []) }
-    // CREATE TABLE t ( x INT ) DATA_RETENTION_TIME_IN_DAYS = 1 CLUSTER BY ( x )
-    ensures name_before_number { Notes 256 (word (codes "CREATE") ∷ word (codes "TABLE") ∷ word (codes "t") ∷ sign (codes "(") ∷ word (codes "x") ∷ word (codes "INT") ∷ sign (codes ")") ∷ word (codes "DATA_RETENTION_TIME_IN_DAYS") ∷ sign (codes "=") ∷ number (codes "1") ∷ word (codes "CLUSTER") ∷ word (codes "BY") ∷ sign (codes "(") ∷ word (codes "x") ∷ sign (codes ")") ∷ []) (Way 0 ∷ Way 0 ∷ Said (codes "T") 13 ∷ Said (codes "X") 17 ∷ Way 0 ∷ Way 0 ∷ Way 0 ∷ Said (codes "X") 70 ∷ Way 1 ∷ Meant (pos 1) 55 ∷ Way 1 ∷ Way 5 ∷ []) }
+    ensures star { Notes 256 (tokens (codes "SELECT * FROM t"))
+        (At 0 ∷ At 7 ∷ Way 0 ∷ from_t 14) }
+    ensures count_all { Notes 256 (tokens (codes "SELECT count ( * ) FROM t"))
+        (At 0 ∷ At 7 ∷ Way 4 ∷ Way 0 ∷ Way 1 ∷ from_t 24) }
+    ensures count_is_a_name { Notes 256 (tokens (codes "SELECT count FROM t"))
+        (At 0 ∷ Said (codes "COUNT") 7 ∷ column_item ++ from_t 18) }
+    ensures least_number { Notes 256 (tokens (codes "SELECT - 9223372036854775808 FROM t"))
+        (At 0 ∷ Meant (neg_ℤ (pos 9223372036854775808)) 7 ∷ number_item ++ from_t 34) }
+    ensures minus_of_a_number_opens_no_level { Notes 0 (tokens (codes "SELECT - 5 FROM t"))
+        (At 0 ∷ Meant (neg_ℤ (pos 5)) 7 ∷ number_item ++ from_t 16) }
+    ensures view_of_storage { Notes 256
+        (tokens (codes "SELECT * FROM information_schema . table_storage_metrics"))
+        (Way 17 ∷ []) }
+    ensures not_and { Notes 256 (tokens (codes "DELETE FROM t WHERE NOT x = 1 AND y = 2"))
+        (Said (codes "T") 12 ∷ Way 7
+        ∷ equals (codes "X") 24 1 28 ++ Way 1 ∷ equals (codes "Y") 34 2 38
+        ++ ways (0 ∷ 0 ∷ 1 ∷ 3 ∷ [])) }
+    ensures either { Notes 256 (tokens (codes "DELETE FROM t WHERE x = 1 OR y = 2"))
+        (Said (codes "T") 12
+        ∷ equals (codes "X") 20 1 24 ++ Way 0 ∷ Way 1 ∷ equals (codes "Y") 29 2 33
+        ++ ways (0 ∷ 0 ∷ 1 ∷ 3 ∷ [])) }
+    ensures name_before_number { Notes 256
+        (tokens (codes "CREATE TABLE t ( x INT ) DATA_RETENTION_TIME_IN_DAYS = 1 CLUSTER BY ( x )"))
+        (Way 0 ∷ Way 0 ∷ Said (codes "T") 13 ∷ Said (codes "X") 17 ∷ Way 0 ∷ Way 0 ∷ Way 0
+        ∷ Said (codes "X") 70 ∷ Way 1 ∷ Meant (pos 1) 55 ∷ Way 1 ∷ Way 5 ∷ []) }
 {}
 
 /// Faults and their places.
 pub fn faults_by_example()
-    // SELECT *
-    ensures cut { Faults 256 (word (codes "SELECT") ∷ sign (codes "*") ∷ []) 8 8 }
-    // SELECT * FORM t
-    ensures misspelt { Faults 256 (word (codes "SELECT") ∷ sign (codes "*") ∷ word (codes "FORM") ∷ word (codes "t") ∷ []) 15 9 }
-    // SELECT * FROM order
-    ensures reserved_word { Faults 256 (word (codes "SELECT") ∷ sign (codes "*") ∷ word (codes "FROM") ∷ word (codes "order") ∷ []) 19 14 }
-    // SELECT 9223372036854775808 FROM t
-    ensures too_large { Faults 256 (word (codes "SELECT") ∷ number (codes "9223372036854775808") ∷ word (codes "FROM") ∷ word (codes "t") ∷ []) 33 7 }
-    // SELECT ( ( x ) ) FROM t
-    ensures level_too_many { Faults 1 (word (codes "SELECT") ∷ sign (codes "(") ∷ sign (codes "(") ∷ word (codes "x") ∷ sign (codes ")") ∷ sign (codes ")") ∷ word (codes "FROM") ∷ word (codes "t") ∷ []) 23 9 }
-    // SELECT - x FROM t
-    ensures minus_too_many { Faults 0 (word (codes "SELECT") ∷ sign (codes "-") ∷ word (codes "x") ∷ word (codes "FROM") ∷ word (codes "t") ∷ []) 17 7 }
-    // SELECT - FROM t
-    ensures minus_before_no_factor { Faults 0 (word (codes "SELECT") ∷ sign (codes "-") ∷ word (codes "FROM") ∷ word (codes "t") ∷ []) 15 9 }
-    // DELETE FROM t WHERE NOT NOT x = 1
-    ensures negation_too_many { Faults 1 (word (codes "DELETE") ∷ word (codes "FROM") ∷ word (codes "t") ∷ word (codes "WHERE") ∷ word (codes "NOT") ∷ word (codes "NOT") ∷ word (codes "x") ∷ sign (codes "=") ∷ number (codes "1") ∷ []) 33 24 }
-    // CREATE TABLE t ( x INT ) CLUSTER BY ( x ) CLUSTER BY ( x )
-    ensures option_twice { Faults 256 (word (codes "CREATE") ∷ word (codes "TABLE") ∷ word (codes "t") ∷ sign (codes "(") ∷ word (codes "x") ∷ word (codes "INT") ∷ sign (codes ")") ∷ word (codes "CLUSTER") ∷ word (codes "BY") ∷ sign (codes "(") ∷ word (codes "x") ∷ sign (codes ")") ∷ word (codes "CLUSTER") ∷ word (codes "BY") ∷ sign (codes "(") ∷ word (codes "x") ∷ sign (codes ")") ∷ []) 58 42 }
-    // CALL SYSTEM$WAIT ( 3 , 'weeks' )
-    ensures wrong_unit { Faults 256 (word (codes "CALL") ∷ word (codes "SYSTEM$WAIT") ∷ sign (codes "(") ∷ number (codes "3") ∷ sign (codes ",") ∷ text (codes "'weeks'") ∷ sign (codes ")") ∷ []) 32 23 }
-    // DELETE FROM t WHERE x = DATE '2023-02-29'
-    ensures no_such_day { Faults 256 (word (codes "DELETE") ∷ word (codes "FROM") ∷ word (codes "t") ∷ word (codes "WHERE") ∷ word (codes "x") ∷ sign (codes "=") ∷ word (codes "DATE") ∷ text (codes "'2023-02-29'") ∷ []) 41 29 }
-    // COMMIT WORK WORK
-    ensures more_behind { Faults 256 (word (codes "COMMIT") ∷ word (codes "WORK") ∷ word (codes "WORK") ∷ []) 16 12 }
+    ensures cut { Faults 256 (tokens (codes "SELECT *")) 8 8 }
+    ensures misspelt { Faults 256 (tokens (codes "SELECT * FORM t")) 15 9 }
+    ensures reserved_word { Faults 256 (tokens (codes "SELECT * FROM order")) 19 14 }
+    ensures too_large { Faults 256 (tokens (codes "SELECT 9223372036854775808 FROM t")) 33 7 }
+    ensures level_too_many { Faults 1 (tokens (codes "SELECT ( ( x ) ) FROM t")) 23 9 }
+    ensures minus_too_many { Faults 0 (tokens (codes "SELECT - x FROM t")) 17 7 }
+    ensures minus_before_no_factor { Faults 0 (tokens (codes "SELECT - FROM t")) 15 9 }
+    ensures negation_too_many { Faults 1
+        (tokens (codes "DELETE FROM t WHERE NOT NOT x = 1")) 33 24 }
+    ensures option_twice { Faults 256
+        (tokens (codes "CREATE TABLE t ( x INT ) CLUSTER BY ( x ) CLUSTER BY ( x )")) 58 42 }
+    ensures wrong_unit { Faults 256 (tokens (codes "CALL SYSTEM$WAIT ( 3 , 'weeks' )")) 32 23 }
+    ensures no_such_day { Faults 256
+        (tokens (codes "DELETE FROM t WHERE x = DATE '2023-02-29'")) 41 29 }
+    ensures more_behind { Faults 256 (tokens (codes "COMMIT WORK WORK")) 16 12 }
     // SELECT * FROM t WHERE with 256 and with 257 opening brackets behind it
     ensures levels_left { Faults 256 (deep 256) 533 533 }
     ensures levels_passed { Faults 256 (deep 257) 535 534 }

@@ -1,12 +1,6 @@
 //! A tree is determined by the marks of its derivation. These laws compute nothing.
 
 ghost use Rattle.std.specs.Prelude.{◌≡◌, ℕ};
-ghost use Rattle.tt_value.specs.declared.expression.Expr.{Expr};
-ghost use Rattle.tt_value.specs.declared.expression.Term.{Term};
-ghost use Rattle.tt_value.specs.declared.expression.Factor.{Factor};
-ghost use Rattle.tt_value.specs.declared.predicate.Predicate.{Predicate};
-ghost use Rattle.tt_value.specs.declared.predicate.Unit.{Unit};
-ghost use Rattle.tt_sql.specs.declared.query.Query.{Query};
 ghost use Rattle.std.specs.Prelude.{Some, Ok, Err, List, length, ◌↔◌, ◌⊎◌};
 ghost use Rattle.tt_lex.specs.declared.Token.{Token};
 ghost use Rattle.tt_lex.specs.declared.LexFault.{LexFault};
@@ -22,6 +16,7 @@ ghost use Rattle.tt_sql.specs.trees.Statements.{IsWrittenStatement};
 ghost use Rattle.tt_sql.specs.marks.Statements.{statement_marks};
 ghost use Rattle.tt_sql.specs.machine.StatementTrees.{statement_tree};
 ghost use Rattle.tt_sql.specs.marks.Queries.{query_marks};
+ghost use Rattle.tt_sql.specs.determined.Marks.{AreToldApartBy};
 ghost use Rattle.tt_sql.specs.determined.Queries.{IsGivenQuery};
 ghost use Rattle.tt_sql.specs.determined.Expressions.{IsGivenExpr, IsGivenTerm, IsGivenFactor, IsGivenPredicate, IsGivenUnit};
 ghost use Rattle.tt_sql.specs.marks.Expressions.{expr_marks, term_marks, factor_marks, predicate_marks, unit_marks};
@@ -29,52 +24,64 @@ ghost use Rattle.tt_sql.specs.marks.Expressions.{expr_marks, term_marks, factor_
 /// Two expressions that the grammar gives are the same if their derivations note the same marks. So are two
 /// terms, and two factors.
 pub fn expressions_are_determined()
-    ensures expression { (a b : Expr) → IsGivenExpr a → IsGivenExpr b → expr_marks a ≡ expr_marks b → a ≡ b }
-    ensures term { (a b : Term) → IsGivenTerm a → IsGivenTerm b → term_marks a ≡ term_marks b → a ≡ b }
-    ensures factor { (a b : Factor) → IsGivenFactor a → IsGivenFactor b → factor_marks a ≡ factor_marks b → a ≡ b }
+    ensures expression { AreToldApartBy IsGivenExpr expr_marks }
+    ensures term { AreToldApartBy IsGivenTerm term_marks }
+    ensures factor { AreToldApartBy IsGivenFactor factor_marks }
 {}
 
 /// Two predicates that the grammar gives are the same if their derivations note the same marks. So are two units.
 pub fn predicates_are_determined()
-    ensures predicate { (a b : Predicate) → IsGivenPredicate a → IsGivenPredicate b → predicate_marks a ≡ predicate_marks b → a ≡ b }
-    ensures single { (a b : Unit) → IsGivenUnit a → IsGivenUnit b → unit_marks a ≡ unit_marks b → a ≡ b }
+    ensures predicate { AreToldApartBy IsGivenPredicate predicate_marks }
+    ensures single { AreToldApartBy IsGivenUnit unit_marks }
 {}
 
 /// Two queries that the grammar gives are the same if their derivations note the same marks.
 pub fn queries_are_determined()
-    ensures query { (a b : Query) → IsGivenQuery a → IsGivenQuery b → query_marks a ≡ query_marks b → a ≡ b }
+    ensures query { AreToldApartBy IsGivenQuery query_marks }
 {}
 
 /// Two statements that the grammar gives are the same if their derivations note the same marks: each is read back
 /// from its marks.
 pub fn statements_are_determined()
-    ensures read { (s : Statement) → IsGivenStatement s → statement_tree (statement_marks s) ≡ Some s }
-    ensures statement { (a b : Statement) → IsGivenStatement a → IsGivenStatement b → statement_marks a ≡ statement_marks b → a ≡ b }
+    ensures read { (s : Statement)
+        → IsGivenStatement s → statement_tree (statement_marks s) ≡ Some s }
+    ensures statement { AreToldApartBy IsGivenStatement statement_marks }
 {}
 
 /// The statement of a text is the one that its tokens spell, and else the place of the fault in its tokens.
 pub fn texts_have_one_statement()
-    ensures found { (text : List ℕ) (tokens : List Token) (s : Statement) → tokens_of text ≡ Ok tokens → IsGivenStatement s
-        → IsStatement most_levels (statement_marks s) (lexemes text tokens) → statement_of text ≡ Ok s }
+    ensures found { (text : List ℕ) (tokens : List Token) (s : Statement)
+        → tokens_of text ≡ Ok tokens → IsGivenStatement s
+        → IsStatement most_levels (statement_marks s) (lexemes text tokens)
+        → statement_of text ≡ Ok s }
     ensures only { (text : List ℕ) (s : Statement) → statement_of text ≡ Ok s
-        → (tokens : List Token) × (tokens_of text ≡ Ok tokens) × IsStatement most_levels (statement_marks s) (lexemes text tokens) }
-    ensures fault { (text : List ℕ) (tokens : List Token) (at : ℕ) → tokens_of text ≡ Ok tokens
-        → HasFaultAt most_levels (length text) (lexemes text tokens) at → statement_of text ≡ Err at }
-    ensures no_tokens { (text : List ℕ) (fault : LexFault) → tokens_of text ≡ Err fault → statement_of text ≡ Err (fault_place fault) }
+        → (tokens : List Token) × (tokens_of text ≡ Ok tokens)
+        × IsStatement most_levels (statement_marks s) (lexemes text tokens) }
+    ensures fault { (text : List ℕ) (tokens : List Token) (at : ℕ)
+        → tokens_of text ≡ Ok tokens → HasFaultAt most_levels (length text) (lexemes text tokens) at
+        → statement_of text ≡ Err at }
+    ensures no_tokens { (text : List ℕ) (fault : LexFault)
+        → tokens_of text ≡ Err fault → statement_of text ≡ Err (fault_place fault) }
 {}
 
 /// What the derivation of a statement notes are the marks of a tree that the grammar gives: for tokens as a lexer
 /// makes them, and so for the tokens of a text.
 pub fn each_statement_has_a_tree()
-    ensures tokens { (levels : ℕ) (m : List Mark) (ts : List Lexeme) → AreLexemes ts → IsStatement levels m ts
+    ensures tokens { (levels : ℕ) (m : List Mark) (ts : List Lexeme)
+        → AreLexemes ts → IsStatement levels m ts
         → (s : Statement) × (statement_marks s ≡ m) × IsWrittenStatement levels s }
-    ensures given { (levels : ℕ) (s : Statement) → IsWrittenStatement levels s → IsGivenStatement s }
-    ensures text { (text : List ℕ) (tokens : List Token) → tokens_of text ≡ Ok tokens → AreLexemes (lexemes text tokens) }
+    ensures given { (levels : ℕ) (s : Statement)
+        → IsWrittenStatement levels s → IsGivenStatement s }
+    ensures text { (text : List ℕ) (tokens : List Token)
+        → tokens_of text ≡ Ok tokens → AreLexemes (lexemes text tokens) }
 {}
 
 /// Each text is the text of a statement or has a fault, and `statement_of` says which.
 pub fn each_text_has_a_statement_or_a_fault()
-    ensures one { (text : List ℕ) → ((s : Statement) × IsTextOf text s) ⊎ ((at : ℕ) × HasSyntaxFault text at) }
-    ensures statement { (text : List ℕ) (s : Statement) → (statement_of text ≡ Ok s) ↔ IsTextOf text s }
-    ensures fault { (text : List ℕ) (at : ℕ) → (statement_of text ≡ Err at) ↔ HasSyntaxFault text at }
+    ensures one { (text : List ℕ)
+        → ((s : Statement) × IsTextOf text s) ⊎ ((at : ℕ) × HasSyntaxFault text at) }
+    ensures statement { (text : List ℕ) (s : Statement)
+        → (statement_of text ≡ Ok s) ↔ IsTextOf text s }
+    ensures fault { (text : List ℕ) (at : ℕ)
+        → (statement_of text ≡ Err at) ↔ HasSyntaxFault text at }
 {}

@@ -3,7 +3,7 @@
 -- to stand, has a kind of its own, so that the grammar can leave it out.
 use Rattle.std.specs.Prelude.{ℕ, ◌+◌, ◌-◌, ◌^◌, Bool, true, false, ◌&&◌, ◌||◌, ◌==◌, nat_le, nat_lt, if◌then◌else◌, List, [], ◌∷◌, ◌++◌, map, length, take, drop, codes, bytes_eq, is_some}
 use Rattle.std.specs.List.{list_all, list_any}
-use Rattle.std.specs.Char.{to_ascii_uppercase}
+use Rattle.std.specs.Char.{is_ascii_digit, to_ascii_uppercase}
 use Rattle.tt_lex.specs.declared.Token.{Token}
 use Rattle.tt_lex.specs.declared.TokenKind.{TokenKind}
 use Rattle.tt_lex.specs.declared.TokenKind.TheVariants as kinds
@@ -439,6 +439,14 @@ unfoldable pub sign_kind : List ℕ → ℕ
 sign_kind sign = if bytes_eq sign (codes "!=") then UNEQUAL else OPEN + place_in signs sign
 
 -- ---- tokens of a text
+
+-- the kind of a token, by its first byte
+abbrev pub token_kind : List ℕ → TokenKind
+token_kind [] = kinds.Sign
+token_kind (b ∷ bytes) =
+    if is_ascii_digit b then kinds.Number
+    else (if is_word_start b then kinds.Word
+    else (if is_quote b then kinds.Quoted else kinds.Sign))
 
 -- a token of this kind, with these bytes; a name stands in upper case
 abbrev pub lexeme : TokenKind → List ℕ → ℕ → Lexeme
