@@ -1,14 +1,12 @@
 -- Words of which one has to stand there.
-use Rattle.std.proofs.Common.{◌≡◌, ℕ, Bool, true, false, ◌||◌, ◌==◌, [], Option, Some, None, MatchOption, refl, eq-eqb}
-use Rattle.tt_sql.specs.grammar.Grammar.{Tok, is_of}
+use Rattle.std.proofs.Common.{◌≡◌, ℕ, Bool, true, false, ◌||◌, ◌==◌, Option, Some, None, MatchOption, refl, eq-eqb}
+use Rattle.tt_sql.specs.grammar.Grammar.{is_of}
 use Rattle.tt_terminal.specs.declared.rest.Rest.{Rest}
-use Rattle.tt_terminal.specs.Reading.{Passes, IsWord, first_kind}
+use Rattle.tt_terminal.specs.Optional.{IsEither, IsAny}
+use Rattle.tt_terminal.specs.Reading.{IsWord, first_kind}
 use Rattle.tt_terminal.proofs.Steps.{passes_one, word_kind_is}
 
 -- ---- one of two
-
-abbrev pub IsEither : ℕ → ℕ → Rest → Rest → Type 0
-IsEither a b r s = (is_of a (λ k. k == b) (first_kind r) ≡ true) × Passes [] (Tok a (λ k. k == b)) r [] s
 
 pub either_first : {a : ℕ} (b : ℕ) {r s : Rest} → IsWord a r s → IsEither a b r s
 either_first {a = a} b {r = r} {s = s} w = (rw (eq-eqb (first_kind r) a (word_kind_is w)) refl, passes_one w.takes (rw (eq-eqb _ a w.kind) refl))
@@ -25,9 +23,6 @@ either_last a b r (Some s) e w = either_second a w
 either_last a b r None e f = rw (e, f) refl
 
 -- ---- one of three
-
-abbrev pub IsAny : ℕ → ℕ → ℕ → Rest → Rest → Type 0
-IsAny a b d r s = (is_of a (λ k. k == b || k == d) (first_kind r) ≡ true) × Passes [] (Tok a (λ k. k == b || k == d)) r [] s
 
 pub any_first : {a : ℕ} (b d : ℕ) {r s : Rest} → IsWord a r s → IsAny a b d r s
 any_first {a = a} b d {r = r} {s = s} w = (rw (eq-eqb (first_kind r) a (word_kind_is w)) refl, passes_one w.takes (rw (eq-eqb _ a w.kind) refl))

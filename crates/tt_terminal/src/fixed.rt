@@ -1,12 +1,13 @@
 //! Readers of fixed words and signs.
 
-ghost use Rattle.std.specs.Prelude.{◌≡◌, ◌||◌, ◌==◌, true, false, [], ◌∷◌, MatchOption};
-ghost use Rattle.tt_sql.specs.grammar.Grammar.{is_of, Tok, At};
-ghost use Rattle.tt_sql.specs.grammar.Combinators.{one, placed, maybe, ◌▸◌};
+ghost use Rattle.std.specs.Prelude.{◌≡◌, ◌==◌, true, false, []};
+ghost use Rattle.tt_sql.specs.grammar.Combinators.{one, placed, maybe};
 ghost use Rattle.tt_sql.specs.grammar.Written.{spare};
 ghost use Rattle.tt_sql.specs.marks.Expressions.{flag_marks};
 ghost use Rattle.tt_terminal.specs.KindNumbers.{kind_number};
-ghost use Rattle.tt_terminal.specs.Reading.{IsKnown, Reads, Passes, first_kind};
+ghost use Rattle.tt_terminal.specs.Reading.{IsKnown, Passes, first_kind};
+ghost use Rattle.tt_terminal.specs.Optional.{IsEitherOrNone, IsAnyOrNone};
+ghost use Rattle.tt_terminal.specs.Readers.{ReadsPart, ReadsOver, place_marks, pair_of};
 
 use crate::error::ParseError;
 use crate::kind::LexemeKind;
@@ -15,7 +16,7 @@ use crate::rest::Rest;
 /// What stands behind a word that has to stand here.
 pub fn after(kind: LexemeKind, rest: Rest<'_>) -> Result<Rest<'_>, ParseError>
     requires { IsKnown rest }
-    ensures { Reads (λ x. []) (λ x. x) (one (kind_number kind)) rest.entry result }
+    ensures { ReadsOver [] (one (kind_number kind)) rest.entry result }
 {
     match rest.word(kind) {
         Some(behind) => Ok(behind),
@@ -26,7 +27,7 @@ pub fn after(kind: LexemeKind, rest: Rest<'_>) -> Result<Rest<'_>, ParseError>
 /// The place of a word that has to stand here.
 pub fn place_of(kind: LexemeKind, rest: Rest<'_>) -> Result<(u32, Rest<'_>), ParseError>
     requires { IsKnown rest }
-    ensures { Reads (λ x. At x.0 ∷ []) (λ x. x.1) (placed (kind_number kind)) rest.entry result }
+    ensures { ReadsPart place_marks (placed (kind_number kind)) rest.entry result }
 {
     match rest.placed(kind) {
         Some(placed) => Ok(placed),
@@ -52,7 +53,8 @@ pub fn flag_of_both(
     rest: Rest<'_>,
 ) -> Result<(bool, Rest<'_>), ParseError>
     requires { IsKnown rest }
-    ensures { Reads (λ x. flag_marks x.0) (λ x. x.1) (maybe (one (kind_number first) ▸ one (kind_number second))) rest.entry result }
+    ensures { ReadsPart flag_marks (maybe (pair_of (kind_number first) (kind_number second)))
+        rest.entry result }
 {
     let Some(rest) = rest.word(first) else {
         return Ok((false, rest));
@@ -75,7 +77,7 @@ pub fn past(kind: LexemeKind, rest: Rest<'_>) -> Rest<'_>
 /// What stands behind one of two words, if one stands here.
 pub fn either_word<'a>(first: LexemeKind, second: LexemeKind, rest: Rest<'a>) -> Option<Rest<'a>>
     requires { IsKnown rest }
-    ensures { MatchOption result (is_of (kind_number first) (λ k. k == kind_number second) (first_kind rest.entry) ≡ false) (λ behind. (is_of (kind_number first) (λ k. k == kind_number second) (first_kind rest.entry) ≡ true) × Passes [] (Tok (kind_number first) (λ k. k == kind_number second)) rest.entry [] behind) }
+    ensures { IsEitherOrNone (kind_number first) (kind_number second) rest.entry result }
 {
     if let Some(behind) = rest.word(first) {
         return Some(behind);
@@ -91,7 +93,8 @@ pub fn any_word<'a>(
     rest: Rest<'a>,
 ) -> Option<Rest<'a>>
     requires { IsKnown rest }
-    ensures { MatchOption result (is_of (kind_number first) (λ k. k == kind_number second || k == kind_number third) (first_kind rest.entry) ≡ false) (λ behind. (is_of (kind_number first) (λ k. k == kind_number second || k == kind_number third) (first_kind rest.entry) ≡ true) × Passes [] (Tok (kind_number first) (λ k. k == kind_number second || k == kind_number third)) rest.entry [] behind) }
+    ensures { IsAnyOrNone (kind_number first) (kind_number second) (kind_number third)
+        rest.entry result }
 {
     if let Some(behind) = rest.word(first) {
         return Some(behind);

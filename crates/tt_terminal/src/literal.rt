@@ -6,7 +6,8 @@ ghost use Rattle.tt_value.specs.values.RowText.{IsPrintableValue};
 ghost use Rattle.tt_sql.specs.grammar.Grammar.{Way, At, Meant, Said};
 ghost use Rattle.tt_sql.specs.marks.Expressions.{literal_marks, number_marks, quoted_marks};
 ghost use Rattle.tt_sql.specs.grammar.Written.{literal as literal_part};
-ghost use Rattle.tt_terminal.specs.Reading.{IsKnown, Reads};
+ghost use Rattle.tt_terminal.specs.Reading.{IsKnown};
+ghost use Rattle.tt_terminal.specs.Readers.{ReadsPart};
 
 use crate::error::ParseError;
 use crate::kind::LexemeKind;
@@ -69,7 +70,7 @@ pub fn text_literal(quoted: Quoted) -> Literal
 /// The literal that has to stand here.
 pub fn literal_of<'a>(alloc: Global, rest: Rest<'a>) -> Result<(Literal, Rest<'a>), ParseError>
     requires { IsKnown rest }
-    ensures reads { Reads (λ x. literal_marks x.0) (λ x. x.1) literal_part rest.entry result }
+    ensures reads { ReadsPart literal_marks literal_part rest.entry result }
     ensures given { IfOk result (λ x. IsPrintableValue x.0.value) }
 {
     if let Some((number, behind)) = optional_number(rest) {

@@ -1,17 +1,18 @@
 //! Readers of names and numbers.
 
-ghost use Rattle.std.specs.Prelude.{◌≡◌, ◌≤◌, ◌<◌, ◌+◌, ◌-◌, ◌*◌, ◌^◌, true, false, neg_ℤ, pos, length, min, All, IsTrue, IfOk, MatchOption};
+ghost use Rattle.std.specs.Prelude.{◌≡◌, ◌≤◌, ◌<◌, ◌+◌, ◌-◌, ◌*◌, ◌^◌, true, neg_ℤ, pos, length, min, All, IsTrue, IfOk};
 ghost use Rattle.std.specs.List.{list_all};
 ghost use Rattle.std.specs.Char.{is_ascii_digit};
 ghost use Rattle.tt_lex.specs.Lexis.{text_of};
 ghost use Rattle.tt_value.specs.values.Texts.{IsPrintableAscii};
-ghost use Rattle.tt_sql.specs.grammar.Grammar.{is_of};
-ghost use Rattle.tt_sql.specs.grammar.TokenKinds.{NAME, SHORT_NUMBER, is_name, is_number, is_negative, upper};
+ghost use Rattle.tt_sql.specs.grammar.TokenKinds.{upper};
 ghost use Rattle.tt_value.specs.calendar.Reading.{digits_value as number_meant};
 ghost use Rattle.tt_sql.specs.grammar.Combinators.{name as name_part, number as number_part, short_number as short_number_part};
 ghost use Rattle.tt_sql.specs.determined.Queries.{IsAlone, IsAloneTable};
 ghost use Rattle.tt_sql.specs.marks.Expressions.{name_marks, column_marks, table_marks, number_marks};
-ghost use Rattle.tt_terminal.specs.Reading.{IsKnown, IsName, IsNumber, IsNegative, Reads, first_kind};
+ghost use Rattle.tt_terminal.specs.Reading.{IsKnown};
+ghost use Rattle.tt_terminal.specs.Optional.{IsNameOrNone, IsNumberOrNone, IsNegativeOrNone};
+ghost use Rattle.tt_terminal.specs.Readers.{ReadsPart};
 
 use crate::error::ParseError;
 use crate::kind::LexemeKind;
@@ -49,7 +50,7 @@ pub fn optional_name<'a>(
     rest: Rest<'a>,
 ) -> Result<Option<(Name, Rest<'a>)>, AllocError>
     requires { IsKnown rest }
-    ensures { IfOk result (λ found. MatchOption found (is_of NAME is_name (first_kind rest.entry) ≡ false) (λ x. IsName rest.entry x.0 x.1)) }
+    ensures { IfOk result (IsNameOrNone rest.entry) }
 {
     let Some((first, behind)) = rest.first() else {
         return Ok(None);
@@ -65,7 +66,7 @@ pub fn optional_name<'a>(
 /// The name that has to stand here.
 pub fn name_of<'a>(alloc: Global, rest: Rest<'a>) -> Result<(Name, Rest<'a>), ParseError>
     requires { IsKnown rest }
-    ensures { Reads (λ x. name_marks x.0) (λ x. x.1) name_part rest.entry result }
+    ensures { ReadsPart name_marks name_part rest.entry result }
 {
     match optional_name(alloc, rest)? {
         Some((name, behind)) => Ok((name, behind)),
@@ -76,7 +77,7 @@ pub fn name_of<'a>(alloc: Global, rest: Rest<'a>) -> Result<(Name, Rest<'a>), Pa
 /// The name of a column. No table's name is written in front.
 pub fn column_of<'a>(alloc: Global, rest: Rest<'a>) -> Result<(ColumnName, Rest<'a>), ParseError>
     requires { IsKnown rest }
-    ensures reads { Reads (λ x. column_marks x.0) (λ x. x.1) name_part rest.entry result }
+    ensures reads { ReadsPart column_marks name_part rest.entry result }
     ensures given { IfOk result (λ x. IsAlone x.0) }
 {
     let (name, rest) = name_of(alloc, rest)?;
@@ -86,7 +87,7 @@ pub fn column_of<'a>(alloc: Global, rest: Rest<'a>) -> Result<(ColumnName, Rest<
 /// The name of a table. No schema's name is written in front.
 pub fn table_of<'a>(alloc: Global, rest: Rest<'a>) -> Result<(TableName, Rest<'a>), ParseError>
     requires { IsKnown rest }
-    ensures reads { Reads (λ x. table_marks x.0) (λ x. x.1) name_part rest.entry result }
+    ensures reads { ReadsPart table_marks name_part rest.entry result }
     ensures given { IfOk result (λ x. IsAloneTable x.0) }
 {
     let (name, rest) = name_of(alloc, rest)?;
@@ -121,7 +122,7 @@ fn with_digit(value: u64, digit: u8) -> u64
 /// The number that stands here, if one does.
 pub fn optional_number<'a>(rest: Rest<'a>) -> Option<(Number, Rest<'a>)>
     requires { IsKnown rest }
-    ensures { MatchOption result (is_of SHORT_NUMBER is_number (first_kind rest.entry) ≡ false) (λ x. IsNumber rest.entry x.0 x.1) }
+    ensures { IsNumberOrNone rest.entry result }
 {
     let (first, behind) = rest.first()?;
     if !first.kind.is_number() {
@@ -135,7 +136,7 @@ pub fn optional_number<'a>(rest: Rest<'a>) -> Option<(Number, Rest<'a>)>
 /// The number that has to stand here.
 pub fn number_of<'a>(rest: Rest<'a>) -> Result<(Number, Rest<'a>), ParseError>
     requires { IsKnown rest }
-    ensures { Reads (λ x. number_marks x.0) (λ x. x.1) number_part rest.entry result }
+    ensures { ReadsPart number_marks number_part rest.entry result }
 {
     match optional_number(rest) {
         Some((number, behind)) => Ok((number, behind)),
@@ -146,7 +147,7 @@ pub fn number_of<'a>(rest: Rest<'a>) -> Result<(Number, Rest<'a>), ParseError>
 /// The number of at most nine digits that has to stand here.
 pub fn short_number_of<'a>(rest: Rest<'a>) -> Result<(Number, Rest<'a>), ParseError>
     requires { IsKnown rest }
-    ensures { Reads (λ x. number_marks x.0) (λ x. x.1) short_number_part rest.entry result }
+    ensures { ReadsPart number_marks short_number_part rest.entry result }
 {
     let Some(_behind) = rest.word(LexemeKind::ShortNumber) else {
         return Err(rest.fault());
@@ -160,7 +161,7 @@ pub fn short_number_of<'a>(rest: Rest<'a>) -> Result<(Number, Rest<'a>), ParseEr
 /// The number that stands behind a minus, with the minus, if one does.
 pub fn optional_negative<'a>(rest: Rest<'a>) -> Option<(i64, Rest<'a>)>
     requires { IsKnown rest }
-    ensures { MatchOption result (is_of SHORT_NUMBER is_negative (first_kind rest.entry) ≡ false) (λ x. IsNegative rest.entry x.0 x.1) }
+    ensures { IsNegativeOrNone rest.entry result }
 {
     let (first, behind) = rest.first()?;
     if !first.kind.is_negative() {

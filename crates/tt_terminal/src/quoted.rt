@@ -1,14 +1,15 @@
 //! Readers of quoted texts.
 
-ghost use Rattle.std.specs.Prelude.{◌≡◌, ◌≤◌, ◌==◌, false, length, IfOk, MatchOption};
+ghost use Rattle.std.specs.Prelude.{◌≡◌, ◌≤◌, ◌==◌, false, length, IfOk};
 ghost use Rattle.std.specs.Str.{IsUtf8};
 ghost use Rattle.tt_value.specs.values.Texts.{IsText};
 ghost use Rattle.tt_value.specs.calendar.Calendar.{day_text, IsDay};
-ghost use Rattle.tt_sql.specs.grammar.Grammar.{is_of};
-ghost use Rattle.tt_sql.specs.grammar.TokenKinds.{OTHER_TEXT, DATE_TEXT, is_quoted, text_kind, unquoted as unquoted_bytes, undoubled as undoubled_bytes};
+ghost use Rattle.tt_sql.specs.grammar.TokenKinds.{DATE_TEXT, text_kind, unquoted as unquoted_bytes, undoubled as undoubled_bytes};
 ghost use Rattle.tt_sql.specs.grammar.Combinators.{quoted as quoted_part};
 ghost use Rattle.tt_sql.specs.marks.Expressions.{quoted_marks};
-ghost use Rattle.tt_terminal.specs.Reading.{IsKnown, IsQuoted, IsDayText, Reads, first_kind};
+ghost use Rattle.tt_terminal.specs.Reading.{IsKnown};
+ghost use Rattle.tt_terminal.specs.Optional.{IsQuotedOrNone, IsDayTextOrNone};
+ghost use Rattle.tt_terminal.specs.Readers.{ReadsPart};
 
 use crate::error::ParseError;
 use crate::kind::LexemeKind;
@@ -60,7 +61,7 @@ pub fn optional_quoted<'a>(
     rest: Rest<'a>,
 ) -> Result<Option<(Quoted, Rest<'a>)>, AllocError>
     requires { IsKnown rest }
-    ensures { IfOk result (λ found. MatchOption found (is_of OTHER_TEXT is_quoted (first_kind rest.entry) ≡ false) (λ x. IsQuoted rest.entry x.0 x.1)) }
+    ensures { IfOk result (IsQuotedOrNone rest.entry) }
 {
     let Some((first, behind)) = rest.first() else {
         return Ok(None);
@@ -76,7 +77,7 @@ pub fn optional_quoted<'a>(
 /// The quoted text that has to stand here.
 pub fn quoted_of<'a>(alloc: Global, rest: Rest<'a>) -> Result<(Quoted, Rest<'a>), ParseError>
     requires { IsKnown rest }
-    ensures { Reads (λ x. quoted_marks x.0) (λ x. x.1) quoted_part rest.entry result }
+    ensures { ReadsPart quoted_marks quoted_part rest.entry result }
 {
     match optional_quoted(alloc, rest)? {
         Some((quoted, behind)) => Ok((quoted, behind)),
@@ -87,7 +88,7 @@ pub fn quoted_of<'a>(alloc: Global, rest: Rest<'a>) -> Result<(Quoted, Rest<'a>)
 /// The day of the date whose text stands here, if one does.
 pub fn optional_day<'a>(rest: Rest<'a>) -> Option<(i32, Rest<'a>)>
     requires { IsKnown rest }
-    ensures { MatchOption result ((first_kind rest.entry == DATE_TEXT) ≡ false) (λ x. IsDayText rest.entry x.0 x.1) }
+    ensures { IsDayTextOrNone rest.entry result }
 {
     let (first, behind) = rest.first()?;
     if first.kind.number() != LexemeKind::DateText.number() {

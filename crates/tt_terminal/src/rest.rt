@@ -1,11 +1,11 @@
 //! What is left of the tokens of a text.
 
-ghost use Rattle.std.specs.Prelude.{◌≡◌, ◌<◌, ◌==◌, false, MatchOption};
-ghost use Rattle.tt_sql.specs.grammar.TokenKinds.{kind_count};
+ghost use Rattle.std.specs.Prelude.{◌≡◌, ◌<◌, false};
 ghost use Rattle.tt_sql.specs.grammar.Written.{begins_other};
 ghost use Rattle.tt_terminal.specs.declared.error.ParseError.TheVariants.{Syntax};
 ghost use Rattle.tt_terminal.specs.KindNumbers.{kind_number};
-ghost use Rattle.tt_terminal.specs.Reading.{Takes, IsWord, IsPlaced, IsKnown, first_kind, first_place};
+ghost use Rattle.tt_terminal.specs.Reading.{IsKnown, first_kind, first_place};
+ghost use Rattle.tt_terminal.specs.Optional.{TakesOrEnds, IsWordOrNone, IsPlacedOrNone};
 
 use crate::error::ParseError;
 use crate::kind::LexemeKind;
@@ -30,7 +30,7 @@ impl<'a> Rest<'a> {
     /// The token that stands here, and what stands behind it.
     pub fn first(self) -> Option<(Lexed, Rest<'a>)>
         requires { IsKnown self }
-        ensures { MatchOption result (first_kind self.entry ≡ kind_count) (λ x. Takes self.entry x.0 x.1) }
+        ensures { TakesOrEnds self.entry result }
     {
         let (first, tokens) = self.tokens.split_first()?;
         let text = self.text;
@@ -40,7 +40,7 @@ impl<'a> Rest<'a> {
     /// What stands behind a token of this kind, if one stands here.
     pub fn word(self, kind: LexemeKind) -> Option<Rest<'a>>
         requires { IsKnown self }
-        ensures { MatchOption result ((first_kind self.entry == kind_number kind) ≡ false) (λ rest. IsWord (kind_number kind) self.entry rest) }
+        ensures { IsWordOrNone (kind_number kind) self.entry result }
     {
         let (first, tokens) = self.tokens.split_first()?;
         if first.kind.number() != kind.number() {
@@ -55,7 +55,7 @@ impl<'a> Rest<'a> {
     /// The place of a token of this kind, and what stands behind it, if one stands here.
     pub fn placed(self, kind: LexemeKind) -> Option<(u32, Rest<'a>)>
         requires { IsKnown self }
-        ensures { MatchOption result ((first_kind self.entry == kind_number kind) ≡ false) (λ x. IsPlaced (kind_number kind) self.entry x.0 x.1) }
+        ensures { IsPlacedOrNone (kind_number kind) self.entry result }
     {
         let (first, rest) = self.first()?;
         if first.kind.number() != kind.number() {
