@@ -1,5 +1,6 @@
 -- The parts of a factor as they are read.
-use Rattle.std.specs.Prelude.{◌≡◌, ℕ, ℤ, false, ◌==◌, ◌⊎◌, [], ◌∷◌}
+use Rattle.std.specs.Prelude.{◌≡◌, ℕ, ℤ, false, ◌==◌, ◌⊎◌, [], ◌∷◌, Option, MatchOption}
+use Rattle.tt_value.specs.declared.expression.Factor.{Factor}
 use Rattle.tt_value.specs.declared.name.Literal.{Literal}
 use Rattle.tt_value.specs.calendar.Calendar.{day_text}
 use Rattle.tt_value.specs.values.RowText.{IsPrintableValue}
@@ -7,10 +8,10 @@ use Rattle.tt_sql.specs.grammar.Grammar.{Gram, Way, Said, Deep, Note, Again, Exp
 use Rattle.tt_sql.specs.grammar.TokenKinds.{NULL, DATE, DATE_TEXT, NAME, OTHER_TEXT, OPEN, CLOSE, MINUS, is_name, is_quoted}
 use Rattle.tt_sql.specs.grammar.Combinators.{◌▸◌, ◌∣◌, way, as_place, one, placed, quoted}
 use Rattle.tt_sql.specs.grammar.Written.{begins_other}
-use Rattle.tt_sql.specs.machine.Factored.{negative, date_factor, plain_name, or_date}
-use Rattle.tt_sql.specs.marks.Expressions.{literal_marks}
+use Rattle.tt_sql.specs.machine.Factored.{negative, date_factor, plain_name, or_date, read_factor, read_factors}
+use Rattle.tt_sql.specs.marks.Expressions.{literal_marks, factor_marks}
 use Rattle.tt_terminal.specs.declared.rest.Rest.{Rest}
-use Rattle.tt_terminal.specs.Reading.{IsPlaced, IsDayText, IsWord, first_kind}
+use Rattle.tt_terminal.specs.Reading.{IsPlaced, IsDayText, IsWord, Passes, first_kind}
 
 -- one value or one name, or what else a factor may be
 abbrev pub simple_with : Gram → Gram
@@ -42,3 +43,11 @@ pub record IsNoSimple (r : Rest) : Type 0 where
   pub null : (first_kind r == NULL) ≡ false
   pub quoted_text : is_of OTHER_TEXT is_quoted (first_kind r) ≡ false
   pub name : is_of NAME is_name (first_kind r) ≡ false
+
+-- one value or one name lies between, whatever else a factor may be, or none stands here
+abbrev pub IsSimpleOrNone : Rest → Option (Factor × Rest) → Type 0
+IsSimpleOrNone r found =
+    MatchOption found (IsNoSimple r) (λ x. (tail : Gram) → Passes [] (simple_with tail) r (factor_marks x.0) x.1)
+
+abbrev pub whole_term : ℕ → Gram
+whole_term levels = read_factor nowhere levels ▸ read_factors levels

@@ -1,16 +1,16 @@
 //! Readers of expressions.
 
-ghost use Rattle.std.specs.Prelude.{◌≡◌, [], map, IfOk, MatchOption, true, false};
-ghost use Rattle.tt_sql.specs.grammar.Combinators.{◌▸◌};
-ghost use Rattle.tt_sql.specs.grammar.Grammar.{nowhere, Gram};
-ghost use Rattle.tt_sql.specs.marks.Expressions.{sign_marks, expr_marks, term_marks, addend_marks, factor_marks, repeated};
+ghost use Rattle.std.specs.Prelude.{IfOk, MatchOption};
+ghost use Rattle.tt_sql.specs.grammar.Grammar.{nowhere};
+ghost use Rattle.tt_sql.specs.marks.Expressions.{sign_marks, expr_marks, term_marks, addend_marks, factor_marks};
 ghost use Rattle.tt_sql.specs.trees.Lists.{Each, WhenThere};
 ghost use Rattle.tt_sql.specs.determined.Expressions.{IsGivenAddend, IsGivenExpr, IsGivenFactor, IsGivenTerm};
 ghost use Rattle.tt_sql.specs.grammar.Written.{sign as sign_part};
 ghost use Rattle.tt_sql.specs.machine.Factored.{read_expr, read_factor, read_factors, read_terms, read_other};
-ghost use Rattle.tt_terminal.specs.Fronts.{begins};
-ghost use Rattle.tt_terminal.specs.Reading.{IsKnown, Offers, Passes, Reads, first_kind};
-ghost use Rattle.tt_phrase.specs.Factors.{IsDate, IsNoDate, IsNoSimple, simple_with, last_minus, nested};
+ghost use Rattle.tt_terminal.specs.Reading.{IsKnown};
+ghost use Rattle.tt_phrase.specs.Factors.{IsDate, IsNoDate, last_minus, nested, IsSimpleOrNone, whole_term};
+ghost use Rattle.tt_phrase.specs.Predicates.{OffersOrNone};
+ghost use Rattle.tt_terminal.specs.Readers.{ReadsPart, ReadsMany};
 
 use sqlite_items::{Boxed, Items};
 use std::alloc::{AllocError, Global};
@@ -26,7 +26,7 @@ use tt_terminal::rest::Rest;
 /// A sign between two terms, if one stands here.
 fn optional_sign(rest: Rest<'_>) -> Option<(Sign, Rest<'_>)>
     requires { IsKnown rest }
-    ensures { MatchOption result (begins true sign_part (first_kind rest.entry) ≡ false) (λ x. Offers sign_part rest.entry (sign_marks x.0) x.1) }
+    ensures { OffersOrNone sign_part sign_marks rest.entry result }
 {
     if let Some(behind) = rest.word(LexemeKind::Plus) {
         return Some((Sign::Plus, behind));
@@ -51,7 +51,7 @@ fn optional_simple<'a>(
     rest: Rest<'a>,
 ) -> Result<Option<(Factor, Rest<'a>)>, AllocError>
     requires { IsKnown rest }
-    ensures reads { IfOk result (λ found. MatchOption found (IsNoSimple rest.entry) (λ x. (tail : Gram) → Passes [] (simple_with tail) rest.entry (factor_marks x.0) x.1)) }
+    ensures reads { IfOk result (IsSimpleOrNone rest.entry) }
     ensures given { IfOk result (λ found. WhenThere (λ x. IsGivenFactor x.0) found) }
 {
     if let Some((place, behind)) = rest.placed(LexemeKind::Null) {
@@ -72,7 +72,7 @@ fn optional_simple<'a>(
 /// A minus and a number, where no level is left.
 fn last_minus_of(rest: Rest<'_>) -> Result<(Factor, Rest<'_>), ParseError>
     requires { IsKnown rest }
-    ensures reads { Reads (λ x. factor_marks x.0) (λ x. x.1) last_minus rest.entry result }
+    ensures reads { ReadsPart factor_marks last_minus rest.entry result }
     ensures given { IfOk result (λ x. IsGivenFactor x.0) }
 {
     let Some((place, behind)) = rest.placed(LexemeKind::Minus) else {
@@ -95,7 +95,7 @@ pub fn expr_of<'a>(
     rest: Rest<'a>,
 ) -> Result<(Expr, Rest<'a>), ParseError>
     requires { IsKnown rest }
-    ensures reads { Reads (λ x. expr_marks x.0) (λ x. x.1) (read_expr nowhere levels) rest.entry result }
+    ensures reads { ReadsPart expr_marks (read_expr nowhere levels) rest.entry result }
     ensures given { IfOk result (λ x. IsGivenExpr x.0) }
 {
     let (first, behind) = term_of(alloc, levels, rest)?;
@@ -117,7 +117,7 @@ fn addends_of<'a>(
     rest: Rest<'a>,
 ) -> Result<(Items<Addend>, Rest<'a>), ParseError>
     requires { IsKnown rest }
-    ensures reads { Reads (λ x. repeated (map addend_marks x.0)) (λ x. x.1) (read_terms levels) rest.entry result }
+    ensures reads { ReadsMany addend_marks (read_terms levels) rest.entry result }
     ensures given { IfOk result (λ x. Each IsGivenAddend x.0) }
 {
     let mut addends = Items::new(alloc);
@@ -133,7 +133,7 @@ fn addends_of<'a>(
 #[cycle(expressions)]
 fn term_of<'a>(alloc: Global, levels: u32, rest: Rest<'a>) -> Result<(Term, Rest<'a>), ParseError>
     requires { IsKnown rest }
-    ensures reads { Reads (λ x. term_marks x.0) (λ x. x.1) (read_factor nowhere levels ▸ read_factors levels) rest.entry result }
+    ensures reads { ReadsPart term_marks (whole_term levels) rest.entry result }
     ensures given { IfOk result (λ x. IsGivenTerm x.0) }
 {
     let (first, behind) = factor_of(alloc, levels, rest)?;
@@ -155,7 +155,7 @@ fn factors_of<'a>(
     rest: Rest<'a>,
 ) -> Result<(Items<Factor>, Rest<'a>), ParseError>
     requires { IsKnown rest }
-    ensures reads { Reads (λ x. repeated (map factor_marks x.0)) (λ x. x.1) (read_factors levels) rest.entry result }
+    ensures reads { ReadsMany factor_marks (read_factors levels) rest.entry result }
     ensures given { IfOk result (λ x. Each IsGivenFactor x.0) }
 {
     let mut factors = Items::new(alloc);
@@ -175,7 +175,7 @@ fn factor_of<'a>(
     rest: Rest<'a>,
 ) -> Result<(Factor, Rest<'a>), ParseError>
     requires { IsKnown rest }
-    ensures reads { Reads (λ x. factor_marks x.0) (λ x. x.1) (read_factor nowhere levels) rest.entry result }
+    ensures reads { ReadsPart factor_marks (read_factor nowhere levels) rest.entry result }
     ensures given { IfOk result (λ x. IsGivenFactor x.0) }
 {
     if let Some((number, behind)) = optional_number(rest) {
@@ -192,7 +192,7 @@ fn other_of<'a>(
     rest: Rest<'a>,
 ) -> Result<(Factor, Rest<'a>), ParseError>
     requires { IsKnown rest }
-    ensures reads { Reads (λ x. factor_marks x.0) (λ x. x.1) (read_other nowhere levels) rest.entry result }
+    ensures reads { ReadsPart factor_marks (read_other nowhere levels) rest.entry result }
     ensures given { IfOk result (λ x. IsGivenFactor x.0) }
 {
     if let Some((factor, behind)) = optional_simple(alloc, rest)? {
@@ -212,7 +212,7 @@ fn nested_of<'a>(
     rest: Rest<'a>,
 ) -> Result<(Factor, Rest<'a>), ParseError>
     requires { IsKnown rest }
-    ensures reads { Reads (λ x. factor_marks x.0) (λ x. x.1) (nested levels) rest.entry result }
+    ensures reads { ReadsPart factor_marks (nested levels) rest.entry result }
     ensures given { IfOk result (λ x. IsGivenFactor x.0) }
 {
     if let Some((place, inside)) = rest.placed(LexemeKind::Open) {

@@ -1,19 +1,17 @@
 //! Readers of what a query selects.
 
-ghost use Rattle.std.specs.Prelude.{◌≡◌, ℕ, false, [], ◌∷◌, ◌++◌, map, IfOk, MatchOption};
-ghost use Rattle.tt_sql.specs.grammar.Grammar.{At, Way, nowhere};
+ghost use Rattle.std.specs.Prelude.{◌≡◌, ℕ, ◌∷◌, IfOk};
+ghost use Rattle.tt_sql.specs.grammar.Grammar.{At, nowhere};
 ghost use Rattle.tt_sql.specs.machine.Factored.{read_item};
-ghost use Rattle.tt_sql.specs.grammar.Lexemes.{begins_with};
-ghost use Rattle.tt_sql.specs.marks.Expressions.{listed_marks, column_marks};
 ghost use Rattle.tt_sql.specs.determined.Queries.{IsAlone, IsGivenItem, IsGivenSelection};
 ghost use Rattle.tt_sql.specs.trees.Lists.{IsListed, WhenThere};
 ghost use Rattle.tt_sql.specs.marks.Queries.{item_marks, selection_marks};
-ghost use Rattle.tt_sql.specs.grammar.Combinators.{listed, name as name_part, one, placed, way, ◌▸◌, ◌∣◌};
-ghost use Rattle.tt_sql.specs.grammar.TokenKinds.{CLOSE, OPEN, STAR};
+ghost use Rattle.tt_sql.specs.grammar.Combinators.{listed};
 ghost use Rattle.tt_terminal.specs.declared.rest.Rest.{Rest};
-ghost use Rattle.tt_phrase.specs.Counted.{counted_marks};
+ghost use Rattle.tt_phrase.specs.Items.{counted_marks, counted_part, closed_name, closed_marks, IsCalledOrNone, selected};
 ghost use Rattle.tt_terminal.specs.KindNumbers.{kind_number};
-ghost use Rattle.tt_terminal.specs.Reading.{IsKnown, IsPlaced, IsWord, Reads, seen};
+ghost use Rattle.tt_terminal.specs.Reading.{IsKnown};
+ghost use Rattle.tt_terminal.specs.Readers.{ReadsPart, ReadsList};
 
 use crate::expression::expr_of;
 use sqlite_items::Items;
@@ -28,7 +26,7 @@ use tt_terminal::rest::Rest;
 /// The place of the word of an aggregate and what stands behind its bracket, if both stand here.
 fn bracket_behind(kind: LexemeKind, rest: Rest<'_>) -> Option<(u32, Rest<'_>)>
     requires { IsKnown rest }
-    ensures { MatchOption result (begins_with (kind_number kind ∷ OPEN ∷ []) (seen rest.entry) ≡ false) (λ x. (bracket : Rest) × IsPlaced (kind_number kind) rest.entry x.0 bracket × IsWord OPEN bracket x.1) }
+    ensures { IsCalledOrNone (kind_number kind) rest.entry result }
 {
     let (place, bracket) = rest.placed(kind)?;
     let behind = bracket.word(LexemeKind::Open)?;
@@ -38,7 +36,7 @@ fn bracket_behind(kind: LexemeKind, rest: Rest<'_>) -> Option<(u32, Rest<'_>)>
 /// What COUNT counts: the values of a column, or the rows. The bracket is closed.
 fn counted<'a>(alloc: Global, rest: Rest<'a>) -> Result<(Option<ColumnName>, Rest<'a>), ParseError>
     requires { IsKnown rest }
-    ensures reads { Reads (λ x. counted_marks x.0) (λ x. x.1) (one STAR ▸ one CLOSE ▸ way 4 ∣ name_part ▸ one CLOSE ▸ way 5) rest.entry result }
+    ensures reads { ReadsPart counted_marks counted_part rest.entry result }
     ensures given { IfOk result (λ x. WhenThere IsAlone x.0) }
 {
     if let Some(rest) = rest.word(LexemeKind::Star) {
@@ -53,7 +51,7 @@ fn counted<'a>(alloc: Global, rest: Rest<'a>) -> Result<(Option<ColumnName>, Res
 /// The column of an aggregate. The bracket is closed.
 fn closed_column<'a>(alloc: Global, rest: Rest<'a>) -> Result<(ColumnName, Rest<'a>), ParseError>
     requires { IsKnown rest }
-    ensures reads { (n : ℕ) → Reads (λ x. column_marks x.0 ++ Way n ∷ []) (λ x. x.1) (name_part ▸ one CLOSE ▸ way n) rest.entry result }
+    ensures reads { (n : ℕ) → ReadsPart (closed_marks n) (closed_name n) rest.entry result }
     ensures given { IfOk result (λ x. IsAlone x.0) }
 {
     let (column, rest) = column_of(alloc, rest)?;
@@ -75,7 +73,7 @@ fn count_item(place: u32, column: Option<ColumnName>) -> Item
 /// An item. The word of an aggregate is a name unless a bracket stands behind it.
 fn item_of<'a>(alloc: Global, levels: u32, rest: Rest<'a>) -> Result<(Item, Rest<'a>), ParseError>
     requires { IsKnown rest }
-    ensures reads { Reads (λ x. item_marks x.0) (λ x. x.1) (read_item nowhere levels) rest.entry result }
+    ensures reads { ReadsPart item_marks (read_item nowhere levels) rest.entry result }
     ensures given { IfOk result (λ x. IsGivenItem x.0) }
 {
     if let Some((place, rest)) = bracket_behind(LexemeKind::Count, rest) {
@@ -105,7 +103,7 @@ fn items_of<'a>(
     rest: Rest<'a>,
 ) -> Result<(Items<Item>, Rest<'a>), ParseError>
     requires { IsKnown rest }
-    ensures reads { Reads (λ x. listed_marks (map item_marks x.0)) (λ x. x.1) (listed (read_item nowhere levels)) rest.entry result }
+    ensures reads { ReadsList item_marks (listed (read_item nowhere levels)) rest.entry result }
     ensures given { IfOk result (λ x. IsListed IsGivenItem x.0) }
 {
     let mut items = Items::new(alloc);
@@ -127,7 +125,7 @@ pub fn selection_of<'a>(
     rest: Rest<'a>,
 ) -> Result<(Selection, Rest<'a>), ParseError>
     requires { IsKnown rest }
-    ensures reads { Reads (λ x. selection_marks x.0) (λ x. x.1) (placed STAR ▸ way 0 ∣ listed (read_item nowhere levels) ▸ way 1) rest.entry result }
+    ensures reads { ReadsPart selection_marks (selected levels) rest.entry result }
     ensures given { IfOk result (λ x. IsGivenSelection x.0) }
 {
     if let Some((place, rest)) = rest.placed(LexemeKind::Star) {

@@ -1,12 +1,13 @@
 //! Lists of literals.
 
-ghost use Rattle.std.specs.Prelude.{map, IfOk};
+ghost use Rattle.std.specs.Prelude.{IfOk};
 ghost use Rattle.tt_sql.specs.trees.Lists.{IsListed};
 ghost use Rattle.tt_value.specs.values.RowText.{IsPrintableValue};
-ghost use Rattle.tt_sql.specs.marks.Expressions.{listed_marks, literal_marks};
+ghost use Rattle.tt_sql.specs.marks.Expressions.{literal_marks};
 ghost use Rattle.tt_sql.specs.grammar.Combinators.{listed};
 ghost use Rattle.tt_sql.specs.grammar.Written.{literal as literal_part};
-ghost use Rattle.tt_terminal.specs.Reading.{IsKnown, Reads};
+ghost use Rattle.tt_terminal.specs.Reading.{IsKnown};
+ghost use Rattle.tt_terminal.specs.Readers.{ReadsList};
 
 use sqlite_items::Items;
 use std::alloc::Global;
@@ -22,7 +23,7 @@ pub fn literals_of<'a>(
     rest: Rest<'a>,
 ) -> Result<(Items<Literal>, Rest<'a>), ParseError>
     requires { IsKnown rest }
-    ensures reads { Reads (λ x. listed_marks (map literal_marks x.0)) (λ x. x.1) (listed literal_part) rest.entry result }
+    ensures reads { ReadsList literal_marks (listed literal_part) rest.entry result }
     ensures given { IfOk result (λ x. IsListed (λ l. IsPrintableValue l.value) x.0) }
 {
     let mut literals = Items::new(alloc);

@@ -1,15 +1,15 @@
 //! Readers of the moments at which queries and clones read.
 
-ghost use Rattle.std.specs.Prelude.{[], ◌∷◌, map, IfOk, ⊤};
-ghost use Rattle.tt_sql.specs.grammar.Grammar.{Meant, Way};
-ghost use Rattle.tt_sql.specs.marks.Expressions.{listed_marks, maybe_marks, number_marks};
-ghost use Rattle.tt_sql.specs.grammar.Combinators.{brackets, maybe, one, quoted_moment, way, ◌▸◌, ◌∣◌};
+ghost use Rattle.std.specs.Prelude.{IfOk, ⊤};
+ghost use Rattle.tt_sql.specs.marks.Expressions.{number_marks};
+ghost use Rattle.tt_sql.specs.grammar.Combinators.{brackets, maybe, quoted_moment};
 ghost use Rattle.tt_sql.specs.determined.Queries.{IsGivenClause, IsGivenMoment};
 ghost use Rattle.tt_sql.specs.trees.Lists.{IsListed, WhenThere};
 ghost use Rattle.tt_sql.specs.marks.Queries.{clause_marks, moment_marks};
-ghost use Rattle.tt_sql.specs.grammar.TokenKinds.{DOUBLE_COLON, MINUS};
-ghost use Rattle.tt_sql.specs.grammar.Written.{clause, either_timestamp, moment, product};
-ghost use Rattle.tt_terminal.specs.Reading.{IsKnown, Reads};
+ghost use Rattle.tt_sql.specs.grammar.Written.{clause, moment, product};
+ghost use Rattle.tt_terminal.specs.Reading.{IsKnown};
+ghost use Rattle.tt_phrase.specs.Moments.{instant_marks, written_type, type_marks, offset};
+ghost use Rattle.tt_terminal.specs.Readers.{ReadsPart, ReadsOver, ReadsList, ReadsMaybe};
 
 use sqlite_items::Items;
 use std::alloc::Global;
@@ -28,7 +28,7 @@ pub fn optional_clause<'a>(
     rest: Rest<'a>,
 ) -> Result<(Option<Clause>, Rest<'a>), ParseError>
     requires { IsKnown rest }
-    ensures reads { Reads (λ x. maybe_marks clause_marks x.0) (λ x. x.1) (maybe clause) rest.entry result }
+    ensures reads { ReadsMaybe clause_marks (maybe clause) rest.entry result }
     ensures given { IfOk result (λ x. WhenThere IsGivenClause x.0) }
 {
     if let Some(rest) = rest.word(LexemeKind::At) {
@@ -47,7 +47,7 @@ pub fn optional_clause<'a>(
 /// A moment in brackets.
 fn bracketed_moment<'a>(alloc: Global, rest: Rest<'a>) -> Result<(Moment, Rest<'a>), ParseError>
     requires { IsKnown rest }
-    ensures reads { Reads (λ x. moment_marks x.0) (λ x. x.1) (brackets moment) rest.entry result }
+    ensures reads { ReadsPart moment_marks (brackets moment) rest.entry result }
     ensures given { IfOk result (λ x. IsGivenMoment x.0) }
 {
     let rest = after(LexemeKind::Open, rest)?;
@@ -59,7 +59,7 @@ fn bracketed_moment<'a>(alloc: Global, rest: Rest<'a>) -> Result<(Moment, Rest<'
 /// The moment that a clause names.
 fn moment_of<'a>(alloc: Global, rest: Rest<'a>) -> Result<(Moment, Rest<'a>), ParseError>
     requires { IsKnown rest }
-    ensures reads { Reads (λ x. moment_marks x.0) (λ x. x.1) moment rest.entry result }
+    ensures reads { ReadsPart moment_marks moment rest.entry result }
     ensures given { IfOk result (λ x. IsGivenMoment x.0) }
 {
     if let Some(rest) = rest.word(LexemeKind::Timestamp) {
@@ -83,7 +83,7 @@ fn moment_of<'a>(alloc: Global, rest: Rest<'a>) -> Result<(Moment, Rest<'a>), Pa
 /// The moment of a timestamp's text, in milliseconds.
 fn instant_of<'a>(alloc: Global, rest: Rest<'a>) -> Result<(i64, Rest<'a>), ParseError>
     requires { IsKnown rest }
-    ensures { Reads (λ x. Meant x.0 0 ∷ []) (λ x. x.1) quoted_moment rest.entry result }
+    ensures { ReadsPart instant_marks quoted_moment rest.entry result }
 {
     let Some(_) = rest.word(LexemeKind::TimeText) else {
         return Err(rest.fault());
@@ -100,7 +100,7 @@ fn instant_of<'a>(alloc: Global, rest: Rest<'a>) -> Result<(i64, Rest<'a>), Pars
 /// The type that may be written behind a timestamp.
 fn past_type(rest: Rest<'_>) -> Result<Rest<'_>, ParseError>
     requires { IsKnown rest }
-    ensures { Reads (λ x. Way 0 ∷ []) (λ x. x) (one DOUBLE_COLON ▸ either_timestamp ▸ way 0 ∣ way 0) rest.entry result }
+    ensures { ReadsOver type_marks written_type rest.entry result }
 {
     let Some(rest) = rest.word(LexemeKind::DoubleColon) else {
         return Ok(rest);
@@ -114,7 +114,7 @@ fn past_type(rest: Rest<'_>) -> Result<Rest<'_>, ParseError>
 /// Seconds from now.
 fn offset_of<'a>(alloc: Global, rest: Rest<'a>) -> Result<(Moment, Rest<'a>), ParseError>
     requires { IsKnown rest }
-    ensures reads { Reads (λ x. moment_marks x.0) (λ x. x.1) (maybe (one MINUS) ▸ product ▸ way 1) rest.entry result }
+    ensures reads { ReadsPart moment_marks offset rest.entry result }
     ensures given { IfOk result (λ x. IsGivenMoment x.0) }
 {
     let (negative, rest) = flag_of(LexemeKind::Minus, rest);
@@ -125,7 +125,7 @@ fn offset_of<'a>(alloc: Global, rest: Rest<'a>) -> Result<(Moment, Rest<'a>), Pa
 /// One to three numbers with stars between them.
 fn factors_of<'a>(alloc: Global, rest: Rest<'a>) -> Result<(Items<Number>, Rest<'a>), ParseError>
     requires { IsKnown rest }
-    ensures reads { Reads (λ x. listed_marks (map number_marks x.0)) (λ x. x.1) product rest.entry result }
+    ensures reads { ReadsList number_marks product rest.entry result }
     ensures given { IfOk result (λ x. IsListed (λ n. ⊤) x.0) }
 {
     let mut factors = Items::new(alloc);

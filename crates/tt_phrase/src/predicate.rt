@@ -1,15 +1,14 @@
 //! Readers of predicates.
 
-ghost use Rattle.std.specs.Prelude.{map, IfOk};
+ghost use Rattle.std.specs.Prelude.{IfOk};
 ghost use Rattle.tt_sql.specs.trees.Lists.{Each, WhenThere};
 ghost use Rattle.tt_sql.specs.determined.Expressions.{IsGivenConjunction, IsGivenPredicate, IsGivenUnit};
-ghost use Rattle.tt_sql.specs.grammar.Grammar.{Again, Many, Predicate as predicate_rule};
-ghost use Rattle.tt_sql.specs.marks.Expressions.{conjunction_marks, maybe_marks, predicate_marks, repeated, unit_marks};
-ghost use Rattle.tt_sql.specs.grammar.Combinators.{maybe, one, ◌▸◌};
+ghost use Rattle.tt_sql.specs.marks.Expressions.{conjunction_marks, predicate_marks, unit_marks};
 ghost use Rattle.tt_sql.specs.machine.Factored.{read_conj, read_pred, read_unit};
-ghost use Rattle.tt_sql.specs.grammar.TokenKinds.{AND, OR, WHERE};
-ghost use Rattle.tt_phrase.specs.Predicates.{deeper_unit};
-ghost use Rattle.tt_terminal.specs.Reading.{IsKnown, Reads};
+ghost use Rattle.tt_phrase.specs.Predicates.{deeper_unit, more_conjunctions, more_units};
+ghost use Rattle.tt_terminal.specs.Reading.{IsKnown};
+ghost use Rattle.tt_phrase.specs.QueryEnds.{filter};
+ghost use Rattle.tt_terminal.specs.Readers.{ReadsPart, ReadsMaybe, ReadsMany};
 
 use crate::unit::simple_of;
 use sqlite_items::{Boxed, Items};
@@ -28,7 +27,7 @@ pub fn predicate_of<'a>(
     rest: Rest<'a>,
 ) -> Result<(Predicate, Rest<'a>), ParseError>
     requires { IsKnown rest }
-    ensures reads { Reads (λ x. predicate_marks x.0) (λ x. x.1) (read_pred levels) rest.entry result }
+    ensures reads { ReadsPart predicate_marks (read_pred levels) rest.entry result }
     ensures given { IfOk result (λ x. IsGivenPredicate x.0) }
 {
     let (first, behind) = conjunction_of(alloc, levels, rest)?;
@@ -50,7 +49,7 @@ fn conjunctions_of<'a>(
     rest: Rest<'a>,
 ) -> Result<(Items<Conjunction>, Rest<'a>), ParseError>
     requires { IsKnown rest }
-    ensures reads { Reads (λ x. repeated (map conjunction_marks x.0)) (λ x. x.1) (Many (one OR ▸ read_conj levels)) rest.entry result }
+    ensures reads { ReadsMany conjunction_marks (more_conjunctions levels) rest.entry result }
     ensures given { IfOk result (λ x. Each IsGivenConjunction x.0) }
 {
     let mut conjunctions = Items::new(alloc);
@@ -70,7 +69,7 @@ fn conjunction_of<'a>(
     rest: Rest<'a>,
 ) -> Result<(Conjunction, Rest<'a>), ParseError>
     requires { IsKnown rest }
-    ensures reads { Reads (λ x. conjunction_marks x.0) (λ x. x.1) (read_conj levels) rest.entry result }
+    ensures reads { ReadsPart conjunction_marks (read_conj levels) rest.entry result }
     ensures given { IfOk result (λ x. IsGivenConjunction x.0) }
 {
     let (first, behind) = unit_of(alloc, levels, rest)?;
@@ -92,7 +91,7 @@ fn units_of<'a>(
     rest: Rest<'a>,
 ) -> Result<(Items<Unit>, Rest<'a>), ParseError>
     requires { IsKnown rest }
-    ensures reads { Reads (λ x. repeated (map unit_marks x.0)) (λ x. x.1) (Many (one AND ▸ read_unit levels)) rest.entry result }
+    ensures reads { ReadsMany unit_marks (more_units levels) rest.entry result }
     ensures given { IfOk result (λ x. Each IsGivenUnit x.0) }
 {
     let mut units = Items::new(alloc);
@@ -108,7 +107,7 @@ fn units_of<'a>(
 #[cycle(predicates)]
 fn unit_of<'a>(alloc: Global, levels: u32, rest: Rest<'a>) -> Result<(Unit, Rest<'a>), ParseError>
     requires { IsKnown rest }
-    ensures reads { Reads (λ x. unit_marks x.0) (λ x. x.1) (read_unit levels) rest.entry result }
+    ensures reads { ReadsPart unit_marks (read_unit levels) rest.entry result }
     ensures given { IfOk result (λ x. IsGivenUnit x.0) }
 {
     if levels == 0 {
@@ -121,7 +120,7 @@ fn unit_of<'a>(alloc: Global, levels: u32, rest: Rest<'a>) -> Result<(Unit, Rest
 #[cycle(predicates)]
 fn deeper_of<'a>(alloc: Global, levels: u32, rest: Rest<'a>) -> Result<(Unit, Rest<'a>), ParseError>
     requires { IsKnown rest }
-    ensures reads { Reads (λ x. unit_marks x.0) (λ x. x.1) (deeper_unit levels) rest.entry result }
+    ensures reads { ReadsPart unit_marks (deeper_unit levels) rest.entry result }
     ensures given { IfOk result (λ x. IsGivenUnit x.0) }
 {
     if let Some(behind) = rest.word(LexemeKind::Not) {
@@ -143,7 +142,7 @@ pub fn filter_of<'a>(
     rest: Rest<'a>,
 ) -> Result<(Option<Predicate>, Rest<'a>), ParseError>
     requires { IsKnown rest }
-    ensures reads { Reads (λ x. maybe_marks predicate_marks x.0) (λ x. x.1) (maybe (one WHERE ▸ Again predicate_rule levels)) rest.entry result }
+    ensures reads { ReadsMaybe predicate_marks (filter levels) rest.entry result }
     ensures given { IfOk result (λ x. WhenThere IsGivenPredicate x.0) }
 {
     let Some(rest) = rest.word(LexemeKind::Where) else {

@@ -1,18 +1,18 @@
 //! Readers of queries.
 
-ghost use Rattle.std.specs.Prelude.{◌≡◌, ◌≤◌, [], ◌∷◌, ◌++◌, length, map, IfOk};
+ghost use Rattle.std.specs.Prelude.{◌≡◌, ◌≤◌, [], ◌∷◌, ◌++◌, length, IfOk};
 ghost use Rattle.tt_sql.specs.grammar.Grammar.{At};
 ghost use Rattle.tt_sql.specs.machine.Factored.{read_query, read_query_end};
-ghost use Rattle.tt_sql.specs.marks.Expressions.{flag_marks, listed_marks, maybe_marks, column_marks, number_marks, table_marks};
+ghost use Rattle.tt_sql.specs.marks.Expressions.{flag_marks, column_marks, number_marks, table_marks};
 ghost use Rattle.tt_sql.specs.trees.Lists.{Each, WhenThere};
 ghost use Rattle.tt_sql.specs.determined.Expressions.{IsGivenPredicate};
 ghost use Rattle.tt_sql.specs.determined.Queries.{IsAlone, IsAloneTable, IsGivenKey, IsGivenKeyColumn, IsGivenQuery, IsGivenSelection};
-ghost use Rattle.tt_sql.specs.marks.Queries.{key_marks, key_column_marks, maybe_listed, query_marks, selection_marks};
-ghost use Rattle.tt_sql.specs.grammar.Combinators.{listed, maybe, name as name_part, number as number_part, one, way, ◌▸◌, ◌∣◌};
-ghost use Rattle.tt_sql.specs.grammar.TokenKinds.{ASC, BY, DESC, GROUP, LIMIT, ORDER};
+ghost use Rattle.tt_sql.specs.marks.Queries.{key_marks, key_column_marks, query_marks, selection_marks};
+ghost use Rattle.tt_sql.specs.grammar.Combinators.{listed, name as name_part};
 ghost use Rattle.tt_sql.specs.grammar.Written.{key};
-ghost use Rattle.tt_phrase.specs.QueryEnds.{IsGivenQueryEnd, IsGivenQueryTail, ends, ends_marks, query_end_marks, query_tail, query_tail_marks};
+ghost use Rattle.tt_phrase.specs.QueryEnds.{IsGivenQueryEnd, IsGivenQueryTail, ends, ends_marks, query_end_marks, query_tail, query_tail_marks, group_by, order_by, key_column, direction, limit};
 ghost use Rattle.tt_terminal.specs.Reading.{IsKnown, Passes, Reads};
+ghost use Rattle.tt_terminal.specs.Readers.{ReadsPart, ReadsList, ReadsMaybeList, ReadsMaybe};
 
 use crate::item::selection_of;
 use crate::moment::optional_clause;
@@ -48,7 +48,7 @@ pub struct QueryEnd {
 /// What a key of ORDER BY orders by.
 fn key_column_of<'a>(alloc: Global, rest: Rest<'a>) -> Result<(KeyColumn, Rest<'a>), ParseError>
     requires { IsKnown rest }
-    ensures reads { Reads (λ x. key_column_marks x.0) (λ x. x.1) (name_part ▸ way 0 ∣ number_part ▸ way 1) rest.entry result }
+    ensures reads { ReadsPart key_column_marks key_column rest.entry result }
     ensures given { IfOk result (λ x. IsGivenKeyColumn x.0) }
 {
     if let Some((name, rest)) = optional_name(alloc, rest)? {
@@ -62,7 +62,7 @@ fn key_column_of<'a>(alloc: Global, rest: Rest<'a>) -> Result<(KeyColumn, Rest<'
 /// Whether DESC stands behind a key.
 fn descending_of(rest: Rest<'_>) -> (bool, Rest<'_>)
     requires { IsKnown rest }
-    ensures { Passes [] (one ASC ▸ way 0 ∣ one DESC ▸ way 1 ∣ way 0) rest.entry (flag_marks result.0) result.1 }
+    ensures { Passes [] direction rest.entry (flag_marks result.0) result.1 }
 {
     if let Some(rest) = rest.word(LexemeKind::Asc) {
         return (false, rest);
@@ -76,7 +76,7 @@ fn descending_of(rest: Rest<'_>) -> (bool, Rest<'_>)
 /// A key of ORDER BY.
 fn key_of<'a>(alloc: Global, rest: Rest<'a>) -> Result<(Key, Rest<'a>), ParseError>
     requires { IsKnown rest }
-    ensures reads { Reads (λ x. key_marks x.0) (λ x. x.1) key rest.entry result }
+    ensures reads { ReadsPart key_marks key rest.entry result }
     ensures given { IfOk result (λ x. IsGivenKey x.0) }
 {
     let (by, rest) = key_column_of(alloc, rest)?;
@@ -87,7 +87,7 @@ fn key_of<'a>(alloc: Global, rest: Rest<'a>) -> Result<(Key, Rest<'a>), ParseErr
 /// The keys of ORDER BY.
 fn keys_of<'a>(alloc: Global, rest: Rest<'a>) -> Result<(Items<Key>, Rest<'a>), ParseError>
     requires { IsKnown rest }
-    ensures reads { Reads (λ x. listed_marks (map key_marks x.0)) (λ x. x.1) (listed key) rest.entry result }
+    ensures reads { ReadsList key_marks (listed key) rest.entry result }
     ensures filled { IfOk result (λ x. 1 ≤ length x.0) }
     ensures given { IfOk result (λ x. Each IsGivenKey x.0) }
 {
@@ -109,7 +109,7 @@ fn columns_of<'a>(
     rest: Rest<'a>,
 ) -> Result<(Items<ColumnName>, Rest<'a>), ParseError>
     requires { IsKnown rest }
-    ensures reads { Reads (λ x. listed_marks (map column_marks x.0)) (λ x. x.1) (listed name_part) rest.entry result }
+    ensures reads { ReadsList column_marks (listed name_part) rest.entry result }
     ensures filled { IfOk result (λ x. 1 ≤ length x.0) }
     ensures given { IfOk result (λ x. Each IsAlone x.0) }
 {
@@ -128,7 +128,7 @@ fn columns_of<'a>(
 /// GROUP BY, if it stands here.
 fn group_of<'a>(alloc: Global, rest: Rest<'a>) -> Result<(Items<ColumnName>, Rest<'a>), ParseError>
     requires { IsKnown rest }
-    ensures reads { Reads (λ x. maybe_listed (map column_marks x.0)) (λ x. x.1) (maybe (one GROUP ▸ one BY ▸ listed name_part)) rest.entry result }
+    ensures reads { ReadsMaybeList column_marks group_by rest.entry result }
     ensures given { IfOk result (λ x. Each IsAlone x.0) }
 {
     let Some(rest) = rest.word(LexemeKind::Group) else {
@@ -142,7 +142,7 @@ fn group_of<'a>(alloc: Global, rest: Rest<'a>) -> Result<(Items<ColumnName>, Res
 /// ORDER BY, if it stands here.
 fn order_of<'a>(alloc: Global, rest: Rest<'a>) -> Result<(Items<Key>, Rest<'a>), ParseError>
     requires { IsKnown rest }
-    ensures reads { Reads (λ x. maybe_listed (map key_marks x.0)) (λ x. x.1) (maybe (one ORDER ▸ one BY ▸ listed key)) rest.entry result }
+    ensures reads { ReadsMaybeList key_marks order_by rest.entry result }
     ensures given { IfOk result (λ x. Each IsGivenKey x.0) }
 {
     let Some(rest) = rest.word(LexemeKind::Order) else {
@@ -156,7 +156,7 @@ fn order_of<'a>(alloc: Global, rest: Rest<'a>) -> Result<(Items<Key>, Rest<'a>),
 /// LIMIT, if it stands here.
 fn limit_of(rest: Rest<'_>) -> Result<(Option<Number>, Rest<'_>), ParseError>
     requires { IsKnown rest }
-    ensures { Reads (λ x. maybe_marks number_marks x.0) (λ x. x.1) (maybe (one LIMIT ▸ number_part)) rest.entry result }
+    ensures { ReadsMaybe number_marks limit rest.entry result }
 {
     let Some(rest) = rest.word(LexemeKind::Limit) else {
         return Ok((None, rest));
@@ -168,7 +168,7 @@ fn limit_of(rest: Rest<'_>) -> Result<(Option<Number>, Rest<'_>), ParseError>
 /// What stands behind the filter of a query.
 fn tail_of<'a>(alloc: Global, rest: Rest<'a>) -> Result<(QueryTail, Rest<'a>), ParseError>
     requires { IsKnown rest }
-    ensures reads { Reads (λ x. query_tail_marks x.0) (λ x. x.1) query_tail rest.entry result }
+    ensures reads { ReadsPart query_tail_marks query_tail rest.entry result }
     ensures given { IfOk result (λ x. IsGivenQueryTail x.0) }
 {
     let (group, rest) = group_of(alloc, rest)?;
@@ -204,7 +204,7 @@ fn query_end_of<'a>(
     rest: Rest<'a>,
 ) -> Result<(QueryEnd, Rest<'a>), ParseError>
     requires { IsKnown rest }
-    ensures reads { Reads (λ x. query_end_marks x.0) (λ x. x.1) (read_query_end levels) rest.entry result }
+    ensures reads { ReadsPart query_end_marks (read_query_end levels) rest.entry result }
     ensures given { IfOk result (λ x. IsGivenQueryEnd x.0) }
 {
     let (clause, rest) = optional_clause(alloc, rest)?;
@@ -225,8 +225,10 @@ fn query_with(
     table: TableName,
     end: QueryEnd,
 ) -> Query
-    ensures marks { query_marks result ≡ At place ∷ (selection_marks selection ++ (table_marks table ++ query_end_marks end)) }
-    ensures given { IsGivenSelection selection → IsAloneTable table → IsGivenQueryEnd end → IsGivenQuery result }
+    ensures marks { query_marks result
+        ≡ At place ∷ (selection_marks selection ++ (table_marks table ++ query_end_marks end)) }
+    ensures given { IsGivenSelection selection → IsAloneTable table → IsGivenQueryEnd end
+        → IsGivenQuery result }
 {
     let clause = end.clause;
     Query {
@@ -248,7 +250,7 @@ pub fn query_of<'a>(
     rest: Rest<'a>,
 ) -> Result<(Query, Rest<'a>), ParseError>
     requires { IsKnown rest }
-    ensures reads { Reads (λ x. query_marks x.0) (λ x. x.1) (read_query levels) rest.entry result }
+    ensures reads { ReadsPart query_marks (read_query levels) rest.entry result }
     ensures given { IfOk result (λ x. IsGivenQuery x.0) }
 {
     let (place, rest) = place_of(LexemeKind::Select, rest)?;

@@ -1,20 +1,18 @@
 //! Readers of the units of a predicate in which no unit stands.
 
-ghost use Rattle.std.specs.Prelude.{◌≡◌, false, true, [], ◌∷◌, ◌++◌, map, IfOk, MatchOption};
+ghost use Rattle.std.specs.Prelude.{false, true, ◌++◌, IfOk};
 ghost use Rattle.tt_sql.specs.grammar.Grammar.{nowhere};
 ghost use Rattle.tt_sql.specs.determined.Expressions.{AreGiven, IsGivenUnit, operand_leaves};
 ghost use Rattle.tt_sql.specs.trees.Lists.{IsListed};
 ghost use Rattle.tt_value.specs.values.RowText.{IsPrintableValue};
-ghost use Rattle.tt_sql.specs.marks.Expressions.{comparison_marks, flag_marks, listed_marks, literal_marks, operand_marks, unit_marks};
-ghost use Rattle.tt_sql.specs.grammar.Combinators.{brackets, listed, name as name_part, one, quoted, way, ◌▸◌};
+ghost use Rattle.tt_sql.specs.marks.Expressions.{comparison_marks, flag_marks, literal_marks, operand_marks, unit_marks};
+ghost use Rattle.tt_sql.specs.grammar.Combinators.{brackets, listed, quoted};
 ghost use Rattle.tt_sql.specs.machine.Factored.{in_or_between, read_operand, read_simple, unit_end};
-ghost use Rattle.tt_sql.specs.grammar.Lexemes.{begins_with};
-ghost use Rattle.tt_sql.specs.grammar.TokenKinds.{CLOSE, COMMA, OPEN, STARTSWITH};
 ghost use Rattle.tt_sql.specs.grammar.Written.{compare, literal as literal_part};
-ghost use Rattle.tt_phrase.specs.Selects.{Follow};
-ghost use Rattle.tt_terminal.specs.Fronts.{begins};
-ghost use Rattle.tt_phrase.specs.Predicates.{Completes, bounds, bounds_marks};
-ghost use Rattle.tt_terminal.specs.Reading.{IsKnown, Offers, Reads, first_kind, seen};
+ghost use Rattle.tt_phrase.specs.Predicates.{bounds, bounds_marks, CompletesUnit, OffersOrNone, starts_with_kinds, starts_with_end};
+ghost use Rattle.tt_terminal.specs.Reading.{IsKnown};
+ghost use Rattle.tt_phrase.specs.Selects.{FollowOrNone};
+ghost use Rattle.tt_terminal.specs.Readers.{ReadsPart, ReadsList};
 
 use crate::expression::optional_date;
 use crate::literals::literals_of;
@@ -33,7 +31,7 @@ use tt_terminal::rest::Rest;
 /// A comparison, if one stands here.
 fn optional_comparison(rest: Rest<'_>) -> Option<(Comparison, Rest<'_>)>
     requires { IsKnown rest }
-    ensures { MatchOption result (begins true compare (first_kind rest.entry) ≡ false) (λ x. Offers compare rest.entry (comparison_marks x.0) x.1) }
+    ensures { OffersOrNone compare comparison_marks rest.entry result }
 {
     if let Some(behind) = rest.word(LexemeKind::Equal) {
         return Some((Comparison::Equal, behind));
@@ -57,7 +55,7 @@ fn optional_comparison(rest: Rest<'_>) -> Option<(Comparison, Rest<'_>)>
 /// The name or the literal that has to stand here.
 fn operand_of<'a>(alloc: Global, rest: Rest<'a>) -> Result<(Operand, Rest<'a>), ParseError>
     requires { IsKnown rest }
-    ensures reads { Reads (λ x. operand_marks x.0) (λ x. x.1) (read_operand nowhere) rest.entry result }
+    ensures reads { ReadsPart operand_marks (read_operand nowhere) rest.entry result }
     ensures given { IfOk result (λ x. AreGiven (operand_leaves x.0)) }
 {
     if let Some((date, behind)) = optional_date(rest) {
@@ -77,7 +75,7 @@ fn bracketed_literals<'a>(
     rest: Rest<'a>,
 ) -> Result<(Items<Literal>, Rest<'a>), ParseError>
     requires { IsKnown rest }
-    ensures reads { Reads (λ x. listed_marks (map literal_marks x.0)) (λ x. x.1) (brackets (listed literal_part)) rest.entry result }
+    ensures reads { ReadsList literal_marks (brackets (listed literal_part)) rest.entry result }
     ensures given { IfOk result (λ x. IsListed (λ l. IsPrintableValue l.value) x.0) }
 {
     let rest = after(LexemeKind::Open, rest)?;
@@ -92,7 +90,7 @@ fn bounds_of<'a>(
     rest: Rest<'a>,
 ) -> Result<((Literal, Literal), Rest<'a>), ParseError>
     requires { IsKnown rest }
-    ensures reads { Reads (λ x. bounds_marks x.0) (λ x. x.1) bounds rest.entry result }
+    ensures reads { ReadsPart bounds_marks bounds rest.entry result }
     ensures least { IfOk result (λ x. IsPrintableValue x.0.0.value) }
     ensures greatest { IfOk result (λ x. IsPrintableValue x.0.1.value) }
 {
@@ -112,7 +110,8 @@ fn choice_of<'a>(
 ) -> Result<(Unit, Rest<'a>), ParseError>
     requires known { IsKnown rest }
     requires given { AreGiven (operand_leaves operand) }
-    ensures reads { Completes (λ x. unit_marks x.0) (λ x. x.1) (operand_marks operand ++ flag_marks negated) in_or_between rest.entry result }
+    ensures reads { CompletesUnit (operand_marks operand ++ flag_marks negated)
+        in_or_between rest.entry result }
     ensures given { IfOk result (λ x. IsGivenUnit x.0) }
 {
     if let Some(rest) = rest.word(LexemeKind::In) {
@@ -132,7 +131,7 @@ fn end_of<'a>(
 ) -> Result<(Unit, Rest<'a>), ParseError>
     requires known { IsKnown rest }
     requires given { AreGiven (operand_leaves operand) }
-    ensures reads { Completes (λ x. unit_marks x.0) (λ x. x.1) (operand_marks operand) unit_end rest.entry result }
+    ensures reads { CompletesUnit (operand_marks operand) unit_end rest.entry result }
     ensures given { IfOk result (λ x. IsGivenUnit x.0) }
 {
     if let Some((comparison, rest)) = optional_comparison(rest) {
@@ -153,7 +152,7 @@ fn end_of<'a>(
 /// What stands behind STARTSWITH and its bracket, if both stand here.
 fn starts_with_bracket(rest: Rest<'_>) -> Option<Rest<'_>>
     requires { IsKnown rest }
-    ensures { MatchOption result (begins_with (STARTSWITH ∷ OPEN ∷ []) (seen rest.entry) ≡ false) (λ behind. Follow (STARTSWITH ∷ OPEN ∷ []) rest.entry behind) }
+    ensures { FollowOrNone starts_with_kinds rest.entry result }
 {
     let rest = rest.word(LexemeKind::Startswith)?;
     rest.word(LexemeKind::Open)
@@ -162,7 +161,7 @@ fn starts_with_bracket(rest: Rest<'_>) -> Option<Rest<'_>>
 /// The column and the text of STARTSWITH.
 fn starts_with_of<'a>(alloc: Global, rest: Rest<'a>) -> Result<(Unit, Rest<'a>), ParseError>
     requires { IsKnown rest }
-    ensures reads { Reads (λ x. unit_marks x.0) (λ x. x.1) (name_part ▸ one COMMA ▸ quoted ▸ one CLOSE ▸ way 6) rest.entry result }
+    ensures reads { ReadsPart unit_marks starts_with_end rest.entry result }
     ensures given { IfOk result (λ x. IsGivenUnit x.0) }
 {
     let (column, rest) = column_of(alloc, rest)?;
@@ -175,7 +174,7 @@ fn starts_with_of<'a>(alloc: Global, rest: Rest<'a>) -> Result<(Unit, Rest<'a>),
 /// The unit that has to stand here, where NOT and brackets are none.
 pub fn simple_of<'a>(alloc: Global, rest: Rest<'a>) -> Result<(Unit, Rest<'a>), ParseError>
     requires { IsKnown rest }
-    ensures reads { Reads (λ x. unit_marks x.0) (λ x. x.1) read_simple rest.entry result }
+    ensures reads { ReadsPart unit_marks read_simple rest.entry result }
     ensures given { IfOk result (λ x. IsGivenUnit x.0) }
 {
     if let Some(inside) = starts_with_bracket(rest) {
