@@ -14,8 +14,11 @@ use Rattle.tt_sql.specs.grammar.Written.{tuple}
 
 -- ---- the columns and the rows of an INSERT
 
+abbrev pub insert_source : ℕ → Gram
+insert_source levels = one VALUES ▸ listed tuple ▸ way 0 ∣ read_query levels ▸ way 1
+
 abbrev pub inserts : ℕ → Gram
-inserts levels = maybe (brackets (listed name)) ▸ (one VALUES ▸ listed tuple ▸ way 0 ∣ read_query levels ▸ way 1)
+inserts levels = maybe (brackets (listed name)) ▸ insert_source levels
 
 abbrev pub inserts_marks : Option (List Name) × InsertSource → List Mark
 inserts_marks x = maybe_marks names_marks x.0 ++ insert_source_marks x.1

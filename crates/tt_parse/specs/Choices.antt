@@ -1,6 +1,8 @@
 -- Readers of some of the alternatives of a choice, which may leave the others to another reader.
 use Rattle.std.specs.Prelude.{ℕ, List, [], Option, Some, None, Result, Ok, Err}
+use Rattle.tt_sql.specs.declared.statement.Statement.{Statement}
 use Rattle.tt_sql.specs.grammar.Grammar.{Mark, Gram}
+use Rattle.tt_sql.specs.marks.Statements.{statement_marks}
 use Rattle.tt_sql.specs.grammar.TokenKinds.{EXPLAIN}
 use Rattle.tt_sql.specs.grammar.Combinators.{one, way, ◌▸◌, ◌∣◌}
 use Rattle.tt_sql.specs.machine.Factored.{read_create, read_delete, read_insert, read_query, read_update}
@@ -21,6 +23,10 @@ Chooses marks rest part r (Ok None) = Skips part r
 Chooses marks rest part r (Err e) = (others : Gram) → Errs [] (part others) r e
 
 -- ---- statements
+
+-- the same of a statement, with what is left behind it
+abbrev pub ChoosesStatement : (Gram → Gram) → Rest → Result (Option (Statement × Rest)) ParseError → Type 0
+ChoosesStatement part r result = Chooses (λ (x : Statement × Rest). statement_marks x.0) (λ (x : Statement × Rest). x.1) part r result
 
 abbrev pub on_rows : ℕ → Gram → Gram
 on_rows levels others = read_insert levels ▸ way 1 ∣ read_update levels ▸ way 2 ∣ read_delete levels ▸ way 3 ∣ copy ▸ way 4 ∣ others

@@ -4,3 +4,4 @@ pub mod Choices
 pub mod Created
 pub mod Lexing
 pub mod Tables
+pub mod Waits

@@ -1,18 +1,17 @@
 //! Readers of statements that change rows.
 
-ghost use Rattle.std.specs.Prelude.{map, IfOk, ⊤};
+ghost use Rattle.std.specs.Prelude.{IfOk, ⊤};
 ghost use Rattle.tt_sql.specs.marks.Changes.{copy_marks, delete_marks, insert_marks, insert_source_marks, names_marks, set_marks, tuple_marks, update_marks};
-ghost use Rattle.tt_sql.specs.marks.Expressions.{listed_marks, maybe_marks};
 ghost use Rattle.tt_sql.specs.trees.Lists.{IsListed, WhenThere};
 ghost use Rattle.tt_sql.specs.determined.Statements.{IsGivenDml, IsGivenInsertSource, IsGivenSet, IsGivenTuple};
 ghost use Rattle.tt_sql.specs.declared.change.Dml.TheVariants as dml;
-ghost use Rattle.tt_sql.specs.grammar.Combinators.{brackets, listed, maybe, name as name_part, one, way, ◌▸◌, ◌∣◌};
-ghost use Rattle.tt_sql.specs.machine.Factored.{read_delete, read_insert, read_query, read_set, read_update};
-ghost use Rattle.tt_sql.specs.grammar.TokenKinds.{VALUES};
+ghost use Rattle.tt_sql.specs.grammar.Combinators.{brackets, listed, maybe, name as name_part};
+ghost use Rattle.tt_sql.specs.machine.Factored.{read_delete, read_insert, read_set, read_update};
 ghost use Rattle.tt_sql.specs.grammar.Written.{copy, tuple};
 ghost use Rattle.tt_sql.specs.determined.Expressions.{IsGivenPredicate};
-ghost use Rattle.tt_parse.specs.Changes.{changes, changes_marks, inserts, inserts_marks};
-ghost use Rattle.tt_terminal.specs.Reading.{IsKnown, Reads};
+ghost use Rattle.tt_parse.specs.Changes.{changes, changes_marks, inserts, inserts_marks, insert_source};
+ghost use Rattle.tt_terminal.specs.Reading.{IsKnown};
+ghost use Rattle.tt_terminal.specs.Readers.{ReadsPart, ReadsList, ReadsMaybe};
 
 use sqlite_items::Items;
 use std::alloc::Global;
@@ -32,7 +31,7 @@ use tt_terminal::rest::Rest;
 /// The names in a list of columns.
 fn names_of<'a>(alloc: Global, rest: Rest<'a>) -> Result<(Items<Name>, Rest<'a>), ParseError>
     requires { IsKnown rest }
-    ensures reads { Reads (λ x. names_marks x.0) (λ x. x.1) (listed name_part) rest.entry result }
+    ensures reads { ReadsPart names_marks (listed name_part) rest.entry result }
     ensures given { IfOk result (λ x. IsListed (λ n. ⊤) x.0) }
 {
     let mut names = Items::new(alloc);
@@ -53,7 +52,7 @@ fn optional_names<'a>(
     rest: Rest<'a>,
 ) -> Result<(Option<Items<Name>>, Rest<'a>), ParseError>
     requires { IsKnown rest }
-    ensures reads { Reads (λ x. maybe_marks names_marks x.0) (λ x. x.1) (maybe (brackets (listed name_part))) rest.entry result }
+    ensures reads { ReadsMaybe names_marks (maybe (brackets (listed name_part))) rest.entry result }
     ensures given { IfOk result (λ x. WhenThere (λ names. IsListed (λ n. ⊤) names) x.0) }
 {
     let Some(rest) = rest.word(LexemeKind::Open) else {
@@ -67,7 +66,7 @@ fn optional_names<'a>(
 /// The values of a row, in brackets.
 fn tuple_of<'a>(alloc: Global, rest: Rest<'a>) -> Result<(Tuple, Rest<'a>), ParseError>
     requires { IsKnown rest }
-    ensures reads { Reads (λ x. tuple_marks x.0) (λ x. x.1) tuple rest.entry result }
+    ensures reads { ReadsPart tuple_marks tuple rest.entry result }
     ensures given { IfOk result (λ x. IsGivenTuple x.0) }
 {
     let (place, rest) = place_of(LexemeKind::Open, rest)?;
@@ -79,7 +78,7 @@ fn tuple_of<'a>(alloc: Global, rest: Rest<'a>) -> Result<(Tuple, Rest<'a>), Pars
 /// The rows of an INSERT.
 fn tuples_of<'a>(alloc: Global, rest: Rest<'a>) -> Result<(Items<Tuple>, Rest<'a>), ParseError>
     requires { IsKnown rest }
-    ensures reads { Reads (λ x. listed_marks (map tuple_marks x.0)) (λ x. x.1) (listed tuple) rest.entry result }
+    ensures reads { ReadsList tuple_marks (listed tuple) rest.entry result }
     ensures given { IfOk result (λ x. IsListed IsGivenTuple x.0) }
 {
     let mut tuples = Items::new(alloc);
@@ -97,7 +96,7 @@ fn tuples_of<'a>(alloc: Global, rest: Rest<'a>) -> Result<(Items<Tuple>, Rest<'a
 /// COPY INTO.
 pub fn copy_of<'a>(alloc: Global, rest: Rest<'a>) -> Result<(Copy, Rest<'a>), ParseError>
     requires { IsKnown rest }
-    ensures reads { Reads (λ x. copy_marks x.0) (λ x. x.1) copy rest.entry result }
+    ensures reads { ReadsPart copy_marks copy rest.entry result }
     ensures given { IfOk result (λ x. IsGivenDml (dml.Copy x.0)) }
 {
     let rest = after(LexemeKind::Copy, rest)?;
@@ -111,7 +110,7 @@ pub fn copy_of<'a>(alloc: Global, rest: Rest<'a>) -> Result<(Copy, Rest<'a>), Pa
 /// A column and its new value.
 fn set_of<'a>(alloc: Global, levels: u32, rest: Rest<'a>) -> Result<(Set, Rest<'a>), ParseError>
     requires { IsKnown rest }
-    ensures reads { Reads (λ x. set_marks x.0) (λ x. x.1) (read_set levels) rest.entry result }
+    ensures reads { ReadsPart set_marks (read_set levels) rest.entry result }
     ensures given { IfOk result (λ x. IsGivenSet x.0) }
 {
     let (name, rest) = name_of(alloc, rest)?;
@@ -127,7 +126,7 @@ fn sets_of<'a>(
     rest: Rest<'a>,
 ) -> Result<(Items<Set>, Rest<'a>), ParseError>
     requires { IsKnown rest }
-    ensures reads { Reads (λ x. listed_marks (map set_marks x.0)) (λ x. x.1) (listed (read_set levels)) rest.entry result }
+    ensures reads { ReadsList set_marks (listed (read_set levels)) rest.entry result }
     ensures given { IfOk result (λ x. IsListed IsGivenSet x.0) }
 {
     let mut sets = Items::new(alloc);
@@ -149,7 +148,7 @@ fn inserted_of<'a>(
     rest: Rest<'a>,
 ) -> Result<((Option<Items<Name>>, InsertSource), Rest<'a>), ParseError>
     requires { IsKnown rest }
-    ensures reads { Reads (λ x. inserts_marks x.0) (λ x. x.1) (inserts levels) rest.entry result }
+    ensures reads { ReadsPart inserts_marks (inserts levels) rest.entry result }
     ensures columns { IfOk result (λ x. WhenThere (λ names. IsListed (λ n. ⊤) names) x.0.0) }
     ensures source { IfOk result (λ x. IsGivenInsertSource x.0.1) }
 {
@@ -165,7 +164,7 @@ pub fn insert_of<'a>(
     rest: Rest<'a>,
 ) -> Result<(Insert, Rest<'a>), ParseError>
     requires { IsKnown rest }
-    ensures reads { Reads (λ x. insert_marks x.0) (λ x. x.1) (read_insert levels) rest.entry result }
+    ensures reads { ReadsPart insert_marks (read_insert levels) rest.entry result }
     ensures given { IfOk result (λ x. IsGivenDml (dml.Insert x.0)) }
 {
     let rest = after(LexemeKind::Insert, rest)?;
@@ -190,7 +189,7 @@ fn insert_source_of<'a>(
     rest: Rest<'a>,
 ) -> Result<(InsertSource, Rest<'a>), ParseError>
     requires { IsKnown rest }
-    ensures reads { Reads (λ x. insert_source_marks x.0) (λ x. x.1) (one VALUES ▸ listed tuple ▸ way 0 ∣ read_query levels ▸ way 1) rest.entry result }
+    ensures reads { ReadsPart insert_source_marks (insert_source levels) rest.entry result }
     ensures given { IfOk result (λ x. IsGivenInsertSource x.0) }
 {
     if let Some(rest) = rest.word(LexemeKind::Values) {
@@ -208,7 +207,7 @@ fn changes_of<'a>(
     rest: Rest<'a>,
 ) -> Result<((Items<Set>, Option<Predicate>), Rest<'a>), ParseError>
     requires { IsKnown rest }
-    ensures reads { Reads (λ x. changes_marks x.0) (λ x. x.1) (changes levels) rest.entry result }
+    ensures reads { ReadsPart changes_marks (changes levels) rest.entry result }
     ensures sets { IfOk result (λ x. IsListed IsGivenSet x.0.0) }
     ensures filter { IfOk result (λ x. WhenThere IsGivenPredicate x.0.1) }
 {
@@ -225,7 +224,7 @@ pub fn update_of<'a>(
     rest: Rest<'a>,
 ) -> Result<(Update, Rest<'a>), ParseError>
     requires { IsKnown rest }
-    ensures reads { Reads (λ x. update_marks x.0) (λ x. x.1) (read_update levels) rest.entry result }
+    ensures reads { ReadsPart update_marks (read_update levels) rest.entry result }
     ensures given { IfOk result (λ x. IsGivenDml (dml.Update x.0)) }
 {
     let rest = after(LexemeKind::Update, rest)?;
@@ -249,7 +248,7 @@ pub fn delete_of<'a>(
     rest: Rest<'a>,
 ) -> Result<(Delete, Rest<'a>), ParseError>
     requires { IsKnown rest }
-    ensures reads { Reads (λ x. delete_marks x.0) (λ x. x.1) (read_delete levels) rest.entry result }
+    ensures reads { ReadsPart delete_marks (read_delete levels) rest.entry result }
     ensures given { IfOk result (λ x. IsGivenDml (dml.Delete x.0)) }
 {
     let rest = after(LexemeKind::Delete, rest)?;

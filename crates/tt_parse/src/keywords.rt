@@ -1,9 +1,9 @@
 //! The words and signs of the language with their kinds.
 
-ghost use Rattle.std.specs.Prelude.{◌≡◌, ◌<◌, ◌+◌, true, length, MatchOption};
+ghost use Rattle.std.specs.Prelude.{◌≡◌, ◌<◌, ◌+◌, true};
 ghost use Rattle.std.specs.List.{list_all};
-ghost use Rattle.tt_sql.specs.grammar.TokenKinds.{place_in, upper, word_kind, sign_kind};
-ghost use Rattle.tt_parse.specs.Tables.{Stands, words_of, is_upper};
+ghost use Rattle.tt_sql.specs.grammar.TokenKinds.{upper, word_kind, sign_kind};
+ghost use Rattle.tt_parse.specs.Tables.{words_of, is_upper, StandsOrNot};
 ghost use Rattle.tt_terminal.specs.KindNumbers.{kind_number};
 ghost use Rattle.tt_lex.specs.Lexis.{is_sign};
 
@@ -125,7 +125,7 @@ const SIGNS: [(&[u8], LexemeKind); 16] = [
 /// The kind that stands with this word, in any case, if it is in the table.
 fn kind_in(table: &[(&[u8], LexemeKind)], word: &[u8]) -> Option<LexemeKind>
     requires { list_all is_upper (words_of table.now) ≡ true }
-    ensures { MatchOption result (place_in (words_of table.now) (upper word.now) ≡ length table.now) (Stands table.now (place_in (words_of table.now) (upper word.now))) }
+    ensures { StandsOrNot table.now word.now result }
 {
     for (other, kind) in table {
         if word.eq_ignore_ascii_case(other) {

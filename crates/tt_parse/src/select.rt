@@ -1,19 +1,18 @@
 //! Readers of statements that begin with SELECT, and of EXPLAIN.
 
-ghost use Rattle.std.specs.Prelude.{◌≡◌, false, [], ◌∷◌, ◌++◌, IfOk, MatchOption};
-ghost use Rattle.tt_sql.specs.grammar.Grammar.{Way};
+ghost use Rattle.std.specs.Prelude.{IfOk};
 ghost use Rattle.tt_sql.specs.marks.Expressions.{table_marks};
 ghost use Rattle.tt_sql.specs.grammar.Combinators.{one, quoted_name, ◌▸◌};
 ghost use Rattle.tt_sql.specs.determined.Queries.{IsAloneTable, IsGivenQuery};
 ghost use Rattle.tt_sql.specs.trees.Lists.{WhenThere};
 ghost use Rattle.tt_sql.specs.marks.Queries.{query_marks};
 ghost use Rattle.tt_sql.specs.machine.Factored.{read_query, read_select};
-ghost use Rattle.tt_sql.specs.grammar.Lexemes.{begins_with};
 ghost use Rattle.tt_sql.specs.determined.Statements.{IsGivenStatement};
 ghost use Rattle.tt_sql.specs.marks.Statements.{statement_marks};
 ghost use Rattle.tt_sql.specs.grammar.TokenKinds.{EXPLAIN};
-ghost use Rattle.tt_terminal.specs.Reading.{IsKnown, Reads, seen};
-ghost use Rattle.tt_phrase.specs.Selects.{Follow, ReadsIf, depth_kinds, view_kinds};
+ghost use Rattle.tt_terminal.specs.Reading.{IsKnown};
+ghost use Rattle.tt_phrase.specs.Selects.{ReadsIf, depth_kinds, view_kinds, FollowOrNone, view_marks, depth_marks};
+ghost use Rattle.tt_terminal.specs.Readers.{ReadsPart};
 
 use std::alloc::Global;
 use tt_phrase::query::query_of;
@@ -28,7 +27,7 @@ use tt_terminal::rest::Rest;
 /// What stands behind the words of the view of storage up to its dot, if they stand here.
 fn view_words(rest: Rest<'_>) -> Option<Rest<'_>>
     requires { IsKnown rest }
-    ensures { MatchOption result (begins_with view_kinds (seen rest.entry) ≡ false) (λ behind. Follow view_kinds rest.entry behind) }
+    ensures { FollowOrNone view_kinds rest.entry result }
 {
     let rest = rest.word(LexemeKind::Select)?;
     let rest = rest.word(LexemeKind::Star)?;
@@ -40,7 +39,7 @@ fn view_words(rest: Rest<'_>) -> Option<Rest<'_>>
 /// What stands behind the words of the depth of a table up to its bracket, if they stand here.
 fn depth_words(rest: Rest<'_>) -> Option<Rest<'_>>
     requires { IsKnown rest }
-    ensures { MatchOption result (begins_with depth_kinds (seen rest.entry) ≡ false) (λ behind. Follow depth_kinds rest.entry behind) }
+    ensures { FollowOrNone depth_kinds rest.entry result }
 {
     let rest = rest.word(LexemeKind::Select)?;
     let rest = rest.word(LexemeKind::SystemClusteringDepth)?;
@@ -50,7 +49,7 @@ fn depth_words(rest: Rest<'_>) -> Option<Rest<'_>>
 /// What stands behind the view of storage, if it stands here.
 fn view_of(rest: Rest<'_>) -> Result<Option<Rest<'_>>, ParseError>
     requires { IsKnown rest }
-    ensures { ReadsIf view_kinds (λ s. Way 17 ∷ []) (λ s. s) rest.entry result }
+    ensures { ReadsIf view_kinds (λ s. view_marks) (λ s. s) rest.entry result }
 {
     let Some(rest) = view_words(rest) else {
         return Ok(None);
@@ -62,7 +61,7 @@ fn view_of(rest: Rest<'_>) -> Result<Option<Rest<'_>>, ParseError>
 /// The table whose name a quoted text is.
 fn quoted_table_of<'a>(alloc: Global, rest: Rest<'a>) -> Result<(TableName, Rest<'a>), ParseError>
     requires { IsKnown rest }
-    ensures reads { Reads (λ x. table_marks x.0) (λ x. x.1) quoted_name rest.entry result }
+    ensures reads { ReadsPart table_marks quoted_name rest.entry result }
     ensures given { IfOk result (λ x. IsAloneTable x.0) }
 {
     let Some(_) = either_word(LexemeKind::NameText, LexemeKind::UnitText, rest) else {
@@ -80,7 +79,7 @@ fn quoted_table_of<'a>(alloc: Global, rest: Rest<'a>) -> Result<(TableName, Rest
 /// The table whose depth is asked for, if such a statement stands here.
 fn depth_of<'a>(alloc: Global, rest: Rest<'a>) -> Result<Option<(TableName, Rest<'a>)>, ParseError>
     requires { IsKnown rest }
-    ensures reads { ReadsIf depth_kinds (λ x. table_marks x.0 ++ Way 18 ∷ []) (λ x. x.1) rest.entry result }
+    ensures reads { ReadsIf depth_kinds (λ x. depth_marks x.0) (λ x. x.1) rest.entry result }
     ensures given { IfOk result (λ found. WhenThere (λ x. IsAloneTable x.0) found) }
 {
     let Some(rest) = depth_words(rest) else {
@@ -98,7 +97,7 @@ pub fn select_of<'a>(
     rest: Rest<'a>,
 ) -> Result<(Statement, Rest<'a>), ParseError>
     requires { IsKnown rest }
-    ensures reads { Reads (λ x. statement_marks x.0) (λ x. x.1) (read_select levels) rest.entry result }
+    ensures reads { ReadsPart statement_marks (read_select levels) rest.entry result }
     ensures given { IfOk result (λ x. IsGivenStatement x.0) }
 {
     if let Some(rest) = view_of(rest)? {
@@ -118,7 +117,7 @@ pub fn explain_of<'a>(
     rest: Rest<'a>,
 ) -> Result<(Query, Rest<'a>), ParseError>
     requires { IsKnown rest }
-    ensures reads { Reads (λ x. query_marks x.0) (λ x. x.1) (one EXPLAIN ▸ read_query levels) rest.entry result }
+    ensures reads { ReadsPart query_marks (one EXPLAIN ▸ read_query levels) rest.entry result }
     ensures given { IfOk result (λ x. IsGivenQuery x.0) }
 {
     let rest = after(LexemeKind::Explain, rest)?;

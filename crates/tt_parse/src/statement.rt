@@ -1,16 +1,17 @@
 //! Readers of whole statements, and of those that are no queries and change no table.
 
-ghost use Rattle.std.specs.Prelude.{[], ◌==◌, IfOk};
-ghost use Rattle.tt_sql.specs.grammar.Grammar.{Tok};
+ghost use Rattle.std.specs.Prelude.{[], IfOk};
 ghost use Rattle.tt_sql.specs.marks.Expressions.{flag_marks};
 ghost use Rattle.tt_sql.specs.trees.Lists.{WhenThere};
 ghost use Rattle.tt_sql.specs.machine.Factored.{read_statement};
 ghost use Rattle.tt_sql.specs.determined.Statements.{IsGivenStatement};
 ghost use Rattle.tt_sql.specs.marks.Statements.{statement_marks};
 ghost use Rattle.tt_sql.specs.grammar.Written.{begin, commit, rollback, show, spare};
-ghost use Rattle.tt_parse.specs.Choices.{Chooses, on_rows, on_tables, on_transactions, others};
+ghost use Rattle.tt_parse.specs.Choices.{on_rows, on_tables, on_transactions, others, ChoosesStatement};
 ghost use Rattle.tt_terminal.specs.KindNumbers.{kind_number};
-ghost use Rattle.tt_terminal.specs.Reading.{IsKnown, Passes, Reads};
+ghost use Rattle.tt_terminal.specs.Reading.{IsKnown, Passes};
+ghost use Rattle.tt_terminal.specs.Optional.{either_token};
+ghost use Rattle.tt_terminal.specs.Readers.{ReadsPart, ReadsOver};
 
 use crate::change::{copy_of, delete_of, insert_of, update_of};
 use crate::select::{explain_of, select_of};
@@ -26,7 +27,8 @@ use tt_terminal::rest::Rest;
 /// What stands behind one of two words that may stand here.
 fn past_either<'a>(first: LexemeKind, second: LexemeKind, rest: Rest<'a>) -> Rest<'a>
     requires { IsKnown rest }
-    ensures { Passes [] (spare (Tok (kind_number first) (λ k. k == kind_number second))) rest.entry [] result }
+    ensures { Passes [] (spare (either_token (kind_number first) (kind_number second)))
+        rest.entry [] result }
 {
     match either_word(first, second, rest) {
         Some(behind) => behind,
@@ -37,7 +39,7 @@ fn past_either<'a>(first: LexemeKind, second: LexemeKind, rest: Rest<'a>) -> Res
 /// BEGIN, or START TRANSACTION.
 fn begin_of(rest: Rest<'_>) -> Result<Rest<'_>, ParseError>
     requires { IsKnown rest }
-    ensures { Reads (λ x. []) (λ x. x) begin rest.entry result }
+    ensures { ReadsOver [] begin rest.entry result }
 {
     if let Some(rest) = rest.word(LexemeKind::Begin) {
         return Ok(past_either(LexemeKind::Work, LexemeKind::Transaction, rest));
@@ -49,7 +51,7 @@ fn begin_of(rest: Rest<'_>) -> Result<Rest<'_>, ParseError>
 /// COMMIT.
 fn commit_of(rest: Rest<'_>) -> Result<Rest<'_>, ParseError>
     requires { IsKnown rest }
-    ensures { Reads (λ x. []) (λ x. x) commit rest.entry result }
+    ensures { ReadsOver [] commit rest.entry result }
 {
     let rest = after(LexemeKind::Commit, rest)?;
     Ok(past(LexemeKind::Work, rest))
@@ -58,7 +60,7 @@ fn commit_of(rest: Rest<'_>) -> Result<Rest<'_>, ParseError>
 /// ROLLBACK.
 fn rollback_of(rest: Rest<'_>) -> Result<Rest<'_>, ParseError>
     requires { IsKnown rest }
-    ensures { Reads (λ x. []) (λ x. x) rollback rest.entry result }
+    ensures { ReadsOver [] rollback rest.entry result }
 {
     let rest = after(LexemeKind::Rollback, rest)?;
     Ok(past(LexemeKind::Work, rest))
@@ -67,7 +69,7 @@ fn rollback_of(rest: Rest<'_>) -> Result<Rest<'_>, ParseError>
 /// SHOW TABLES: whether HISTORY stands behind it.
 fn show_of(rest: Rest<'_>) -> Result<(bool, Rest<'_>), ParseError>
     requires { IsKnown rest }
-    ensures { Reads (λ x. flag_marks x.0) (λ x. x.1) show rest.entry result }
+    ensures { ReadsPart flag_marks show rest.entry result }
 {
     let rest = after(LexemeKind::Show, rest)?;
     let rest = after(LexemeKind::Tables, rest)?;
@@ -77,7 +79,7 @@ fn show_of(rest: Rest<'_>) -> Result<(bool, Rest<'_>), ParseError>
 /// A statement that makes or changes a table, if one stands here.
 fn on_table<'a>(alloc: Global, rest: Rest<'a>) -> Result<Option<(Statement, Rest<'a>)>, ParseError>
     requires { IsKnown rest }
-    ensures reads { Chooses (λ x. statement_marks x.0) (λ x. x.1) on_tables rest.entry result }
+    ensures reads { ChoosesStatement on_tables rest.entry result }
     ensures given { IfOk result (λ found. WhenThere (λ x. IsGivenStatement x.0) found) }
 {
     if stands(LexemeKind::Create, rest) {
@@ -106,7 +108,7 @@ fn on_table<'a>(alloc: Global, rest: Rest<'a>) -> Result<Option<(Statement, Rest
 /// A statement that begins or ends a transaction, if one stands here.
 fn on_transaction(rest: Rest<'_>) -> Result<Option<(Statement, Rest<'_>)>, ParseError>
     requires { IsKnown rest }
-    ensures reads { Chooses (λ x. statement_marks x.0) (λ x. x.1) on_transactions rest.entry result }
+    ensures reads { ChoosesStatement on_transactions rest.entry result }
     ensures given { IfOk result (λ found. WhenThere (λ x. IsGivenStatement x.0) found) }
 {
     if stands(LexemeKind::Begin, rest) {
@@ -135,7 +137,7 @@ fn on_row<'a>(
     rest: Rest<'a>,
 ) -> Result<Option<(Statement, Rest<'a>)>, ParseError>
     requires { IsKnown rest }
-    ensures reads { Chooses (λ x. statement_marks x.0) (λ x. x.1) (on_rows levels) rest.entry result }
+    ensures reads { ChoosesStatement (on_rows levels) rest.entry result }
     ensures given { IfOk result (λ found. WhenThere (λ x. IsGivenStatement x.0) found) }
 {
     if stands(LexemeKind::Insert, rest) {
@@ -164,7 +166,7 @@ fn other_of<'a>(
     rest: Rest<'a>,
 ) -> Result<(Statement, Rest<'a>), ParseError>
     requires { IsKnown rest }
-    ensures reads { Reads (λ x. statement_marks x.0) (λ x. x.1) (others levels) rest.entry result }
+    ensures reads { ReadsPart statement_marks (others levels) rest.entry result }
     ensures given { IfOk result (λ x. IsGivenStatement x.0) }
 {
     if stands(LexemeKind::Call, rest) {
@@ -186,7 +188,7 @@ pub fn statement_of<'a>(
     rest: Rest<'a>,
 ) -> Result<(Statement, Rest<'a>), ParseError>
     requires { IsKnown rest }
-    ensures reads { Reads (λ x. statement_marks x.0) (λ x. x.1) (read_statement levels) rest.entry result }
+    ensures reads { ReadsPart statement_marks (read_statement levels) rest.entry result }
     ensures given { IfOk result (λ x. IsGivenStatement x.0) }
 {
     if stands(LexemeKind::Select, rest) {

@@ -1,9 +1,8 @@
 //! Readers of statements that make and change tables.
 
-ghost use Rattle.std.specs.Prelude.{[], ◌++◌, map, IfOk, ⊤};
-ghost use Rattle.tt_sql.specs.grammar.Grammar.{Note, Tok};
-ghost use Rattle.tt_sql.specs.marks.Expressions.{listed_marks, maybe_marks, flag_marks, name_marks, number_marks, table_marks};
-ghost use Rattle.tt_sql.specs.grammar.Combinators.{brackets, listed, maybe, name as name_part, number as number_part, one, way, ◌▸◌, ◌∣◌};
+ghost use Rattle.std.specs.Prelude.{[], IfOk, ⊤};
+ghost use Rattle.tt_sql.specs.marks.Expressions.{name_marks, number_marks, table_marks};
+ghost use Rattle.tt_sql.specs.grammar.Combinators.{brackets, listed, maybe, name as name_part, number as number_part, one, ◌▸◌};
 ghost use Rattle.tt_sql.specs.determined.Queries.{IsAloneTable};
 ghost use Rattle.tt_sql.specs.trees.Lists.{IsListed};
 ghost use Rattle.tt_sql.specs.machine.Factored.{read_create};
@@ -11,10 +10,11 @@ ghost use Rattle.tt_sql.specs.determined.Statements.{IsGivenChange, IsGivenSourc
 ghost use Rattle.tt_sql.specs.declared.statement.Statement.TheVariants as statement;
 ghost use Rattle.tt_sql.specs.marks.Statements.{statement_marks};
 ghost use Rattle.tt_sql.specs.marks.Tables.{alter_marks, change_marks, definition_marks, kind_marks, options_marks, table_kind_marks};
-ghost use Rattle.tt_sql.specs.grammar.TokenKinds.{BY, CLOSE, CLUSTER, CLUSTERING, DROP, EQUAL, KEY, NAME, OPEN, RECLUSTER, RESUME, SHORT_NUMBER, SUSPEND, TRANSIENT, is_name, is_number};
-ghost use Rattle.tt_sql.specs.grammar.Written.{alter, change, column, create_front, drop_table, kind, name_and_number, only_number, options, retention, truncate, undrop};
-ghost use Rattle.tt_parse.specs.Created.{columns, columns_marks, origin, origin_marks};
-ghost use Rattle.tt_terminal.specs.Reading.{IsKnown, Passes, Reads};
+ghost use Rattle.tt_sql.specs.grammar.TokenKinds.{BY, EQUAL, TRANSIENT};
+ghost use Rattle.tt_sql.specs.grammar.Written.{alter, change, column, create_front, drop_table, kind, options, retention, truncate, undrop};
+ghost use Rattle.tt_parse.specs.Created.{columns, columns_marks, origin, origin_marks, create_front_marks, retained, upkeep};
+ghost use Rattle.tt_terminal.specs.Reading.{IsKnown, Passes};
+ghost use Rattle.tt_terminal.specs.Readers.{ReadsPart, ReadsList, ReadsMaybe};
 
 use sqlite_items::Items;
 use std::alloc::Global;
@@ -34,7 +34,7 @@ use tt_value::Kind;
 /// The kind of a column.
 fn kind_of(rest: Rest<'_>) -> Result<(Kind, Rest<'_>), ParseError>
     requires { IsKnown rest }
-    ensures { Reads (λ x. kind_marks x.0) (λ x. x.1) kind rest.entry result }
+    ensures { ReadsPart kind_marks kind rest.entry result }
 {
     if let Some(rest) = any_word(
         LexemeKind::Int,
@@ -64,7 +64,7 @@ fn definition_of<'a>(
     rest: Rest<'a>,
 ) -> Result<(ColumnDefinition, Rest<'a>), ParseError>
     requires { IsKnown rest }
-    ensures { Reads (λ x. definition_marks x.0) (λ x. x.1) column rest.entry result }
+    ensures { ReadsPart definition_marks column rest.entry result }
 {
     let (name, rest) = name_of(alloc, rest)?;
     let (kind, rest) = kind_of(rest)?;
@@ -82,7 +82,7 @@ fn definition_of<'a>(
 /// A name in brackets.
 pub fn bracketed_name<'a>(alloc: Global, rest: Rest<'a>) -> Result<(Name, Rest<'a>), ParseError>
     requires { IsKnown rest }
-    ensures { Reads (λ x. name_marks x.0) (λ x. x.1) (brackets name_part) rest.entry result }
+    ensures { ReadsPart name_marks (brackets name_part) rest.entry result }
 {
     let rest = after(LexemeKind::Open, rest)?;
     let (name, rest) = name_of(alloc, rest)?;
@@ -93,7 +93,7 @@ pub fn bracketed_name<'a>(alloc: Global, rest: Rest<'a>) -> Result<(Name, Rest<'
 /// The column behind CLUSTER.
 fn cluster_name<'a>(alloc: Global, rest: Rest<'a>) -> Result<(Name, Rest<'a>), ParseError>
     requires { IsKnown rest }
-    ensures { Reads (λ x. name_marks x.0) (λ x. x.1) (one BY ▸ brackets name_part) rest.entry result }
+    ensures { ReadsPart name_marks (one BY ▸ brackets name_part) rest.entry result }
 {
     let rest = after(LexemeKind::By, rest)?;
     bracketed_name(alloc, rest)
@@ -102,7 +102,7 @@ fn cluster_name<'a>(alloc: Global, rest: Rest<'a>) -> Result<(Name, Rest<'a>), P
 /// The number of days behind DATA_RETENTION_TIME_IN_DAYS.
 fn days_of(rest: Rest<'_>) -> Result<(Number, Rest<'_>), ParseError>
     requires { IsKnown rest }
-    ensures { Reads (λ x. number_marks x.0) (λ x. x.1) (one EQUAL ▸ number_part) rest.entry result }
+    ensures { ReadsPart number_marks (one EQUAL ▸ number_part) rest.entry result }
 {
     let rest = after(LexemeKind::Equal, rest)?;
     number_of(rest)
@@ -114,7 +114,7 @@ fn definitions_of<'a>(
     rest: Rest<'a>,
 ) -> Result<(Items<ColumnDefinition>, Rest<'a>), ParseError>
     requires { IsKnown rest }
-    ensures reads { Reads (λ x. listed_marks (map definition_marks x.0)) (λ x. x.1) (listed column) rest.entry result }
+    ensures reads { ReadsList definition_marks (listed column) rest.entry result }
     ensures given { IfOk result (λ x. IsListed (λ d. ⊤) x.0) }
 {
     let mut columns = Items::new(alloc);
@@ -132,7 +132,7 @@ fn definitions_of<'a>(
 /// The options of a new table.
 fn options_of<'a>(alloc: Global, rest: Rest<'a>) -> Result<(TableOptions, Rest<'a>), ParseError>
     requires { IsKnown rest }
-    ensures { Reads (λ x. options_marks x.0) (λ x. x.1) options rest.entry result }
+    ensures { ReadsPart options_marks options rest.entry result }
 {
     if let Some(rest) = rest.word(LexemeKind::Cluster) {
         let (name, rest) = cluster_name(alloc, rest)?;
@@ -165,7 +165,7 @@ fn retained_options<'a>(
     rest: Rest<'a>,
 ) -> Result<(TableOptions, Rest<'a>), ParseError>
     requires { IsKnown rest }
-    ensures { Reads (λ x. options_marks x.0) (λ x. x.1) (one EQUAL ▸ Tok SHORT_NUMBER is_number ▸ (one CLUSTER ▸ one BY ▸ one OPEN ▸ Tok NAME is_name ▸ one CLOSE ▸ Note name_and_number ∣ Note only_number)) rest.entry result }
+    ensures { ReadsPart options_marks retained rest.entry result }
 {
     let rest = after(LexemeKind::Equal, rest)?;
     let Some((days, rest)) = optional_number(rest) else {
@@ -207,7 +207,7 @@ fn retained_options<'a>(
 /// The retention, if it stands here.
 fn optional_retention(rest: Rest<'_>) -> Result<(Option<Number>, Rest<'_>), ParseError>
     requires { IsKnown rest }
-    ensures { Reads (λ x. maybe_marks number_marks x.0) (λ x. x.1) (maybe retention) rest.entry result }
+    ensures { ReadsMaybe number_marks (maybe retention) rest.entry result }
 {
     let Some(rest) = rest.word(LexemeKind::DataRetentionTimeInDays) else {
         return Ok((None, rest));
@@ -222,7 +222,7 @@ fn front_of<'a>(
     rest: Rest<'a>,
 ) -> Result<((bool, TableKind, TableName), Rest<'a>), ParseError>
     requires { IsKnown rest }
-    ensures reads { Reads (λ x. flag_marks x.0.0 ++ (table_kind_marks x.0.1 ++ table_marks x.0.2)) (λ x. x.1) create_front rest.entry result }
+    ensures reads { ReadsPart create_front_marks create_front rest.entry result }
     ensures given { IfOk result (λ x. IsAloneTable x.0.2) }
 {
     let rest = after(LexemeKind::Create, rest)?;
@@ -239,7 +239,7 @@ fn columns_of<'a>(
     rest: Rest<'a>,
 ) -> Result<((Items<ColumnDefinition>, TableOptions), Rest<'a>), ParseError>
     requires { IsKnown rest }
-    ensures reads { Reads (λ x. columns_marks x.0) (λ x. x.1) columns rest.entry result }
+    ensures reads { ReadsPart columns_marks columns rest.entry result }
     ensures given { IfOk result (λ x. IsListed (λ d. ⊤) x.0.0) }
 {
     let rest = after(LexemeKind::Open, rest)?;
@@ -252,7 +252,7 @@ fn columns_of<'a>(
 /// The table of which a new one is a clone, and the moment.
 fn origin_of<'a>(alloc: Global, rest: Rest<'a>) -> Result<(Source, Rest<'a>), ParseError>
     requires { IsKnown rest }
-    ensures reads { Reads (λ x. origin_marks x.0) (λ x. x.1) origin rest.entry result }
+    ensures reads { ReadsPart origin_marks origin rest.entry result }
     ensures given { IfOk result (λ x. IsGivenSource x.0) }
 {
     let rest = after(LexemeKind::Clone, rest)?;
@@ -264,7 +264,7 @@ fn origin_of<'a>(alloc: Global, rest: Rest<'a>) -> Result<(Source, Rest<'a>), Pa
 /// CREATE TABLE, with columns or as a clone.
 pub fn create_of<'a>(alloc: Global, rest: Rest<'a>) -> Result<(Statement, Rest<'a>), ParseError>
     requires { IsKnown rest }
-    ensures reads { Reads (λ x. statement_marks x.0) (λ x. x.1) read_create rest.entry result }
+    ensures reads { ReadsPart statement_marks read_create rest.entry result }
     ensures given { IfOk result (λ x. IsGivenStatement x.0) }
 {
     let (front, rest) = front_of(alloc, rest)?;
@@ -306,7 +306,7 @@ fn table_kind_of(rest: Rest<'_>) -> (TableKind, Rest<'_>)
 /// DROP TABLE.
 pub fn drop_of<'a>(alloc: Global, rest: Rest<'a>) -> Result<(TableName, Rest<'a>), ParseError>
     requires { IsKnown rest }
-    ensures reads { Reads (λ x. table_marks x.0) (λ x. x.1) drop_table rest.entry result }
+    ensures reads { ReadsPart table_marks drop_table rest.entry result }
     ensures given { IfOk result (λ x. IsAloneTable x.0) }
 {
     let rest = after(LexemeKind::Drop, rest)?;
@@ -317,7 +317,7 @@ pub fn drop_of<'a>(alloc: Global, rest: Rest<'a>) -> Result<(TableName, Rest<'a>
 /// UNDROP TABLE.
 pub fn undrop_of<'a>(alloc: Global, rest: Rest<'a>) -> Result<(TableName, Rest<'a>), ParseError>
     requires { IsKnown rest }
-    ensures reads { Reads (λ x. table_marks x.0) (λ x. x.1) undrop rest.entry result }
+    ensures reads { ReadsPart table_marks undrop rest.entry result }
     ensures given { IfOk result (λ x. IsAloneTable x.0) }
 {
     let rest = after(LexemeKind::Undrop, rest)?;
@@ -328,7 +328,7 @@ pub fn undrop_of<'a>(alloc: Global, rest: Rest<'a>) -> Result<(TableName, Rest<'
 /// TRUNCATE TABLE.
 pub fn truncate_of<'a>(alloc: Global, rest: Rest<'a>) -> Result<(TableName, Rest<'a>), ParseError>
     requires { IsKnown rest }
-    ensures reads { Reads (λ x. table_marks x.0) (λ x. x.1) truncate rest.entry result }
+    ensures reads { ReadsPart table_marks truncate rest.entry result }
     ensures given { IfOk result (λ x. IsAloneTable x.0) }
 {
     let rest = after(LexemeKind::Truncate, rest)?;
@@ -339,7 +339,7 @@ pub fn truncate_of<'a>(alloc: Global, rest: Rest<'a>) -> Result<(TableName, Rest
 /// ALTER TABLE.
 pub fn alter_of<'a>(alloc: Global, rest: Rest<'a>) -> Result<(Alter, Rest<'a>), ParseError>
     requires { IsKnown rest }
-    ensures reads { Reads (λ x. alter_marks x.0) (λ x. x.1) alter rest.entry result }
+    ensures reads { ReadsPart alter_marks alter rest.entry result }
     ensures given { IfOk result (λ x. IsGivenStatement (statement.Alter x.0)) }
 {
     let rest = after(LexemeKind::Alter, rest)?;
@@ -352,7 +352,7 @@ pub fn alter_of<'a>(alloc: Global, rest: Rest<'a>) -> Result<(Alter, Rest<'a>), 
 /// What ALTER TABLE changes.
 fn change_of<'a>(alloc: Global, rest: Rest<'a>) -> Result<(Change, Rest<'a>), ParseError>
     requires { IsKnown rest }
-    ensures reads { Reads (λ x. change_marks x.0) (λ x. x.1) change rest.entry result }
+    ensures reads { ReadsPart change_marks change rest.entry result }
     ensures given { IfOk result (λ x. IsGivenChange x.0) }
 {
     if let Some(rest) = rest.word(LexemeKind::Rename) {
@@ -380,7 +380,7 @@ fn change_of<'a>(alloc: Global, rest: Rest<'a>) -> Result<(Change, Rest<'a>), Pa
 /// The changes that have no name and no number.
 fn upkeep_of(rest: Rest<'_>) -> Result<(Change, Rest<'_>), ParseError>
     requires { IsKnown rest }
-    ensures reads { Reads (λ x. change_marks x.0) (λ x. x.1) (one DROP ▸ one CLUSTERING ▸ one KEY ▸ way 4 ∣ one SUSPEND ▸ one RECLUSTER ▸ way 5 ∣ one RESUME ▸ one RECLUSTER ▸ way 6) rest.entry result }
+    ensures reads { ReadsPart change_marks upkeep rest.entry result }
     ensures given { IfOk result (λ x. IsGivenChange x.0) }
 {
     if let Some(rest) = rest.word(LexemeKind::Drop) {

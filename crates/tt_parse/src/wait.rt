@@ -1,14 +1,11 @@
 //! The reader of CALL SYSTEM$WAIT.
 
-ghost use Rattle.std.specs.Prelude.{◌≡◌, false, [], ◌∷◌, bytes_eq, MatchOption};
-ghost use Rattle.std.specs.List.{list_any};
-ghost use Rattle.tt_sql.specs.grammar.Grammar.{Note, Way};
-ghost use Rattle.tt_sql.specs.grammar.Combinators.{as_unit, one, way, ◌▸◌, ◌∣◌};
-ghost use Rattle.tt_sql.specs.marks.Statements.{unit_number, wait_marks};
-ghost use Rattle.tt_sql.specs.grammar.TokenKinds.{COMMA, UNIT_TEXT, unit_words, upper};
+ghost use Rattle.tt_sql.specs.marks.Statements.{wait_marks};
 ghost use Rattle.tt_sql.specs.grammar.Written.{wait};
-ghost use Rattle.tt_terminal.specs.Reading.{IsKnown, Reads};
-ghost use Rattle.tt_parse.specs.Tables.{IsUnit};
+ghost use Rattle.tt_terminal.specs.Reading.{IsKnown};
+ghost use Rattle.tt_parse.specs.Tables.{IsUnitOrNone};
+ghost use Rattle.tt_parse.specs.Waits.{time_unit, time_unit_or_seconds, time_unit_marks};
+ghost use Rattle.tt_terminal.specs.Readers.{ReadsPart};
 
 use std::alloc::Global;
 use tt_sql::{TimeUnit, Wait};
@@ -22,7 +19,7 @@ use tt_terminal::rest::Rest;
 /// CALL SYSTEM$WAIT. Where no unit is written, seconds are meant.
 pub fn wait_of<'a>(alloc: Global, rest: Rest<'a>) -> Result<(Wait, Rest<'a>), ParseError>
     requires { IsKnown rest }
-    ensures { Reads (λ x. wait_marks x.0) (λ x. x.1) wait rest.entry result }
+    ensures { ReadsPart wait_marks wait rest.entry result }
 {
     let rest = after(LexemeKind::Call, rest)?;
     let rest = after(LexemeKind::SystemWait, rest)?;
@@ -36,7 +33,7 @@ pub fn wait_of<'a>(alloc: Global, rest: Rest<'a>) -> Result<(Wait, Rest<'a>), Pa
 /// The unit behind a comma, if one stands here, or else seconds.
 fn optional_unit<'a>(alloc: Global, rest: Rest<'a>) -> Result<(TimeUnit, Rest<'a>), ParseError>
     requires { IsKnown rest }
-    ensures { Reads (λ x. Way (unit_number x.0) ∷ []) (λ x. x.1) (one COMMA ▸ one UNIT_TEXT ▸ Note as_unit ∣ way 3) rest.entry result }
+    ensures { ReadsPart time_unit_marks time_unit_or_seconds rest.entry result }
 {
     let Some(rest) = rest.word(LexemeKind::Comma) else {
         return Ok((TimeUnit::Seconds, rest));
@@ -47,7 +44,7 @@ fn optional_unit<'a>(alloc: Global, rest: Rest<'a>) -> Result<(TimeUnit, Rest<'a
 /// The unit whose quoted name has to stand here.
 fn unit_text_of<'a>(alloc: Global, rest: Rest<'a>) -> Result<(TimeUnit, Rest<'a>), ParseError>
     requires { IsKnown rest }
-    ensures { Reads (λ x. Way (unit_number x.0) ∷ []) (λ x. x.1) (one UNIT_TEXT ▸ Note as_unit) rest.entry result }
+    ensures { ReadsPart time_unit_marks time_unit rest.entry result }
 {
     let Some(_) = rest.word(LexemeKind::UnitText) else {
         return Err(rest.fault());
@@ -63,7 +60,7 @@ fn unit_text_of<'a>(alloc: Global, rest: Rest<'a>) -> Result<(TimeUnit, Rest<'a>
 
 /// The unit of time that this word names, in any case, if it does.
 pub fn unit_of(word: &[u8]) -> Option<TimeUnit>
-    ensures { MatchOption result (list_any (bytes_eq (upper word.now)) unit_words ≡ false) (IsUnit word.now) }
+    ensures { IsUnitOrNone word.now result }
 {
     if word.eq_ignore_ascii_case(b"DAYS") {
         return Some(TimeUnit::Days);
