@@ -3,3 +3,4 @@ pub mod Chain
 pub mod Spans
 pub mod Holds
 pub mod Owners
+pub mod WorkedFacts
