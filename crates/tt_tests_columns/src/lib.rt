@@ -4,6 +4,8 @@
 #[cfg(test)]
 mod ints;
 #[cfg(test)]
+mod partitions;
+#[cfg(test)]
 mod texts;
 #[cfg(test)]
 mod zones;

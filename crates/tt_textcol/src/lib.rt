@@ -12,7 +12,7 @@ mod text_ref;
 mod writing;
 
 pub use column::{DecodeError, EncodeError, TextColumn};
-pub use rows::{decode, decode_parts};
+pub use rows::{decode, decode_parts, decode_refs};
 pub use text_ref::TextRef;
 pub use tt_value::{BadColumn, FaultAt};
 pub use writing::{encode, encode_refs};

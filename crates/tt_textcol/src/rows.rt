@@ -74,38 +74,32 @@ fn count_present(flags: &[u64]) -> usize
     flags.iter().filter(|flag| **flag == 0).count()
 }
 
-/// The row of a flag, where the next text stands at `at`, and where the next one stands behind it. Here
-/// is the one copy of each text.
-fn row_at(
-    alloc: Global,
-    flag: u64,
-    values: &[TextRef<'_>],
-    at: usize,
-) -> Result<(Option<Text>, usize), AllocError>
-    ensures { IfOk result (λ x. IsNextRow flag (drop at values.now) x.0 (drop x.1 values.now)) }
+/// The row of a flag, where the next text stands at `at`, and where the next one stands behind it.
+fn row_at<'a>(flag: u64, values: &[TextRef<'a>], at: usize) -> (Option<TextRef<'a>>, usize)
+    ensures { IsNextRow flag (drop at values.now) result.0 (drop result.1 values.now) }
 {
     match values.get(at) {
-        None => Ok((None, at)),
+        None => (None, at),
         Some(value) => {
             if flag != 0 {
-                return Ok((None, at));
+                return (None, at);
             }
-            Ok((Some(value.to_text(alloc)?), at + 1))
+            (Some(value.again()), at + 1)
         }
     }
 }
 
-fn spread(
+fn spread<'a>(
     alloc: Global,
     flags: &[u64],
-    values: &[TextRef<'_>],
-) -> Result<Vec<Option<Text>>, AllocError>
+    values: &[TextRef<'a>],
+) -> Result<Vec<Option<TextRef<'a>>>, AllocError>
     ensures { IfOk result (λ rows. rows.items ≡ spread flags.now values.now) }
 {
     let mut rows = Vec::with_capacity(alloc, flags.len())?;
     let mut at = 0;
     for flag in flags {
-        let (row, next) = row_at(alloc, *flag, values, at)?;
+        let (row, next) = row_at(*flag, values, at);
         rows.push(row)?;
         at = next;
     }
@@ -167,8 +161,46 @@ fn read_all(
     Ok(values)
 }
 
-/// The rows of a column whose bytes stand elsewhere, as in `decode`.
+/// The rows of a column whose bytes stand elsewhere, as in `decode`. No text is copied.
 #[tactic(auto, unfolding(crate::specs::TextReading::rows_of))]
+pub fn decode_refs<'a>(
+    alloc: Global,
+    rows: u32,
+    encoding: u8,
+    nulls: bool,
+    bitmap: &[u8],
+    body: &'a [u8],
+) -> Result<Vec<Option<TextRef<'a>>>, DecodeError>
+    ensures { Gives (λ v. v.items) result (rows_in rows encoding nulls bitmap.now body.now) }
+{
+    let encoding = read_encoding(encoding)?;
+    let flags = read_flags(alloc, rows, nulls, bitmap)?;
+    let end = bitmap.len() as u64 + body.len() as u64;
+    let values = read_all(alloc, encoding, end, count_present(&flags), body)?;
+    Ok(spread(alloc, &flags, &values)?)
+}
+
+fn text_of(alloc: Global, row: &Option<TextRef<'_>>) -> Result<Option<Text>, AllocError>
+    ensures { IfOk result (λ t. t ≡ row.now) }
+{
+    match row {
+        None => Ok(None),
+        Some(text) => Ok(Some(text.to_text(alloc)?)),
+    }
+}
+
+/// Here is the one copy of each text.
+fn texts_of(alloc: Global, rows: &[Option<TextRef<'_>>]) -> Result<Vec<Option<Text>>, AllocError>
+    ensures { IfOk result (λ v. v.items ≡ rows.now) }
+{
+    let mut texts = Vec::with_capacity(alloc, rows.len())?;
+    for row in rows {
+        texts.push(text_of(alloc, row)?)?;
+    }
+    Ok(texts)
+}
+
+/// The same with a copy of each text.
 pub fn decode_parts(
     alloc: Global,
     rows: u32,
@@ -179,11 +211,8 @@ pub fn decode_parts(
 ) -> Result<Vec<Option<Text>>, DecodeError>
     ensures { Gives (λ v. v.items) result (rows_in rows encoding nulls bitmap.now body.now) }
 {
-    let encoding = read_encoding(encoding)?;
-    let flags = read_flags(alloc, rows, nulls, bitmap)?;
-    let end = bitmap.len() as u64 + body.len() as u64;
-    let values = read_all(alloc, encoding, end, count_present(&flags), body)?;
-    Ok(spread(alloc, &flags, &values)?)
+    let texts = decode_refs(alloc, rows, encoding, nulls, bitmap, body)?;
+    Ok(texts_of(alloc, &texts)?)
 }
 
 /// The rows of a column: the texts in order, NULL where the bitmap has its bit. A column that no rows

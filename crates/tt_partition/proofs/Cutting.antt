@@ -1,0 +1,72 @@
+-- Rows that are cut from the front, so many at a time.
+use Rattle.std.proofs.Common.{◌≡◌, ℕ, zero, suc, ◌+◌, ◌-◌, ◌*◌, ◌/◌, ◌≤◌, ◌<◌, Bool, true, false, ltb, List, [], ◌∷◌, length, take, drop, refl, sym, ap, subst, ◌∙◌, arith}
+use Rattle.std.specs.Prelude.{min}
+use Rattle.std.specs.List.{AllByRecursion}
+use Rattle.std.proofs.lemmas.Bool.{ltb-true, ltb-false}
+use Rattle.std.proofs.lemmas.List.{take_all, length-take, length-drop, length-map, drop-drop}
+use Rattle.std.proofs.Math.ListN.{drop_of_length-le}
+use Rattle.std.proofs.Math.Nat.{le-div_iff_mul-le, add-mul}
+use Rattle.tt_value.specs.declared.value.Row.{Row}
+use Rattle.tt_value.specs.declared.value.Column.{Column}
+use Rattle.tt_value.specs.declared.value.Schema.{Schema}
+use Rattle.tt_partition.specs.Table.{HasKinds, IsPart}
+use Rattle.tt_partition.specs.Cuts.{kinds_of, FitSchema}
+
+front_same : {X : Type 0} (n : ℕ) (xs : List X) → take (min n (length xs)) xs ≡ take n xs
+front_same n xs = go (ltb (length xs) n) refl
+  where
+    go : (b : Bool) → ltb (length xs) n ≡ b → take (min n (length xs)) xs ≡ take n xs
+    go true t = let lt = ltb-true (length xs) n t in let e : min n (length xs) ≡ length xs = omega (arith, lt) in ap (λ m. take m xs) e ∙ take_all (length xs) xs (omega arith) ∙ sym (take_all n xs (omega (arith, lt)))
+    go false t = let le = ltb-false (length xs) n t in let e : min n (length xs) ≡ n = omega (arith, le) in ap (λ m. take m xs) e
+
+back_same : {X : Type 0} (n : ℕ) (xs : List X) → drop (min n (length xs)) xs ≡ drop n xs
+back_same n xs = go (ltb (length xs) n) refl
+  where
+    go : (b : Bool) → ltb (length xs) n ≡ b → drop (min n (length xs)) xs ≡ drop n xs
+    go true t = let lt = ltb-true (length xs) n t in let e : min n (length xs) ≡ length xs = omega (arith, lt) in ap (λ m. drop m xs) e ∙ drop_of_length-le xs (omega arith) ∙ sym (drop_of_length-le xs (omega (arith, lt)))
+    go false t = let le = ltb-false (length xs) n t in let e : min n (length xs) ≡ n = omega (arith, le) in ap (λ m. drop m xs) e
+
+next_place : (t cap : ℕ) → (t + 1) * cap ≡ t * cap + cap
+next_place t cap = add-mul t 1 cap ∙ ap (λ m. t * cap + m) (omega arith)
+
+more_left : (t cap n : ℕ) → 1 ≤ cap → t < (n + (cap - 1)) / cap → t * cap < n
+more_left t cap n one lt =
+    let some : 0 < cap = omega (arith, one) in
+    let next : t + 1 ≤ (n + (cap - 1)) / cap = omega (arith, lt) in
+    let le : (t + 1) * cap ≤ n + (cap - 1) = (le-div_iff_mul-le some).0 next in
+    let e = next_place t cap in
+    omega (arith, le, e, one)
+
+all_take : {X : Type 0} (P : X → Type 0) (n : ℕ) (xs : List X) → AllByRecursion P xs → AllByRecursion P (take n xs)
+all_take P zero xs all = tt
+all_take P (suc n) [] all = tt
+all_take P (suc n) (x ∷ xs) all = (all.0, all_take P n xs all.1)
+
+all_drop : {X : Type 0} (P : X → Type 0) (n : ℕ) (xs : List X) → AllByRecursion P xs → AllByRecursion P (drop n xs)
+all_drop P zero xs all = all
+all_drop P (suc n) [] all = tt
+all_drop P (suc n) (x ∷ xs) all = all_drop P n xs all.1
+
+-- the rows that are cut off next
+pub front_is : (rows rest part : List Row) (t cap : ℕ) → rest ≡ drop (t * cap) rows → part ≡ take (min cap (length rest)) rest → part ≡ take cap (drop (t * cap) rows)
+front_is rows rest part t cap e f = f ∙ front_same cap rest ∙ ap (take cap) e
+
+-- the rows that are left
+pub back_is : (rows rest after : List Row) (t cap : ℕ) → rest ≡ drop (t * cap) rows → after ≡ drop (min cap (length rest)) rest → after ≡ drop ((t + 1) * cap) rows
+back_is rows rest after t cap e f = f ∙ back_same cap rest ∙ ap (drop cap) e ∙ drop-drop cap (t * cap) rows ∙ ap (λ m. drop m rows) (sym (next_place t cap))
+
+pub cut_is_part : (schema : Schema) (rows part : List Row) (t cap : ℕ) → 1 ≤ length schema.columns → length schema.columns ≤ 32 → 1 ≤ cap → cap ≤ 65536 → FitSchema schema rows → t < (length rows + (cap - 1)) / cap → part ≡ take cap (drop (t * cap) rows)
+    → IsPart (record { kinds = kinds_of schema; rows = part })
+cut_is_part schema rows part t cap some few one most fits lt is =
+    let kinds = length-map schema.columns (λ (column : Column). column.kind) in
+    let left = more_left t cap (length rows) one lt in
+    let taken = length-take cap (drop (t * cap) rows) in
+    let dropped = length-drop (t * cap) rows in
+    let len = ap length is in
+    record {
+      some_columns = omega (arith, kinds, some);
+      few_columns = omega (arith, kinds, few);
+      some_rows = omega (arith, left, taken, dropped, len, one);
+      few_rows = omega (arith, taken, len, most);
+      of_kinds = subst (λ (r : List Row). AllByRecursion (λ (row : Row). HasKinds (kinds_of schema) row.values) r) (sym is) (all_take (λ (row : Row). HasKinds (kinds_of schema) row.values) cap (drop (t * cap) rows) (all_drop (λ (row : Row). HasKinds (kinds_of schema) row.values) (t * cap) rows fits));
+    }

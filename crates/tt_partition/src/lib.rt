@@ -1,0 +1,15 @@
+//! The immutable partition: rows held by columns, as an image of bytes.
+#![tactic(auto)]
+
+mod column;
+mod error;
+mod head;
+mod numbers;
+mod partition;
+mod reading;
+mod rows;
+mod writing;
+
+pub use column::ColumnValues;
+pub use error::{BadImage, ImageError};
+pub use partition::Partition;

@@ -1,0 +1,155 @@
+//! The partition: rows that never change, as an image of bytes with its zones.
+
+ghost use Rattle.std.specs.Prelude.{◌≡◌, ◌≤◌, ◌<◌, ◌^◌, length, IfOk, Ok};
+ghost use Rattle.std.specs.List.{AllByRecursion};
+ghost use Rattle.tt_partition.specs.ImageReading.{table_at};
+ghost use Rattle.tt_partition.specs.Table.{IsPart};
+ghost use Rattle.tt_partition.specs.Cuts.{kinds_of, cut, FitSchema};
+ghost use Rattle.tt_partition.specs.Outcome.{Gives};
+
+use crate::error::ImageError;
+use crate::reading::read_image;
+use crate::rows::{rows_of, zones_of};
+use crate::writing::image_of;
+use std::alloc::{AllocError, Global};
+use std::marker::Model;
+use tt_value::{Row, Schema};
+use tt_zone::Zone;
+
+/// A byte is below 256.
+fn bytes_fit(bytes: &[u8])
+    ensures { AllByRecursion (λ b. b < 2 ^ 8) bytes.now }
+{}
+
+/// Rows of a table, held by columns. It never changes, and keeps the allocator of its image. Contracts see
+/// the kinds of its columns and its rows.
+#[derive(Drop)]
+pub struct Partition {
+    image: Vec<u8>,
+    zones: Vec<Zone>,
+    rows: u32,
+}
+
+impl Model for Partition {
+    ghost use Rattle.tt_partition.specs.Table.{Table};
+    ghost use Rattle.tt_partition.specs.Sound.{table_in, IsSound};
+
+    ghost Value = { Table };
+
+    ghost view = { λ p. table_in p.image.items };
+
+    ghost invariant = { λ p. IsSound p.image.items p.zones.items p.rows };
+}
+
+impl Partition {
+    ghost use Rattle.tt_partition.specs.Table.{Table, zones_of};
+    ghost use Rattle.tt_partition.specs.Image.{image_of};
+
+    /// The partition of an image. Bytes that are no image are refused with the place of their first fault.
+    pub fn from_image(alloc: Global, bytes: &[u8]) -> Result<Partition, ImageError>
+        // The image of a table is read as this table.
+        ensures again { (table : Table) → IsPart table → bytes.now ≡ image_of table → Gives (λ p. p) result (Ok table) }
+        // What is read is the image of its table.
+        ensures only { IfOk result (λ p. (bytes.now ≡ image_of p) × IsPart p) }
+        // Which table it is, or which place; only want of memory is free.
+        ensures exact { Gives (λ p. p) result (table_at bytes.now) }
+    {
+        bytes_fit(bytes);
+        read_partition(alloc, bytes)
+    }
+
+    /// The partitions of these rows: each but the last has `cap` rows, in their order, and the last as many as are
+    /// left.
+    pub fn build(
+        alloc: Global,
+        schema: &Schema,
+        rows: &[Row],
+        cap: u32,
+    ) -> Result<Vec<Partition>, AllocError>
+        requires some_columns { 1 ≤ length schema.now.columns }
+        requires few_columns { length schema.now.columns ≤ 32 }
+        requires cap { (1 ≤ cap) × (cap ≤ 65536) }
+        requires rows { FitSchema schema.now rows.now }
+        ensures { IfOk result (λ parts. parts.items ≡ cut (kinds_of schema.now) cap rows.now) }
+    {
+        let cap = cap as usize;
+        let mut parts = Vec::new(alloc);
+        let mut rest = rows;
+        let count = (rows.len() + (cap - 1)) / cap;
+        for _turn in 0..count {
+            let (part, after) = rest.split_at(cap.min(rest.len()));
+            parts.push(build_one(alloc, schema, part)?)?;
+            rest = after;
+        }
+        Ok(parts)
+    }
+
+    /// The bytes of the partition.
+    pub fn image(&self) -> &[u8]
+        ensures image { result.now ≡ image_of self.now }
+        ensures part { IsPart self.now }
+    {
+        let image = self.image.as_slice();
+        bytes_fit(image);
+        image
+    }
+
+    /// What is known of each column without reading the image.
+    pub fn zones(&self) -> &[Zone]
+        ensures { result.now ≡ zones_of self.now }
+    {
+        self.zones.as_slice()
+    }
+
+    /// How many rows there are. The image is not looked at.
+    pub fn row_count(&self) -> u32
+        ensures { result ≡ length self.now.rows }
+    {
+        self.rows
+    }
+
+    /// The rows in order.
+    pub fn rows(&self) -> Result<Vec<Row>, AllocError>
+        ensures { IfOk result (λ v. v.items ≡ self.now.rows) }
+    {
+        let alloc = *self.image.allocator();
+        let image = self.image.as_slice();
+        bytes_fit(image);
+        match read_image(alloc, image) {
+            Ok(columns) => rows_of(alloc, columns.rows, &columns.columns),
+            Err(ImageError::Memory) => Err(AllocError),
+            Err(ImageError::BadImage(_)) => unreachable!(),
+        }
+    }
+}
+
+/// The partition of an image, or the place of the first fault.
+fn read_partition(alloc: Global, bytes: &[u8]) -> Result<Partition, ImageError>
+    ensures { Gives (λ p. p) result (table_at bytes.now) }
+{
+    bytes_fit(bytes);
+    let columns = read_image(alloc, bytes)?;
+    let values = columns.columns.as_slice();
+    let rows = rows_of(alloc, columns.rows, values)?;
+    let zones = zones_of(alloc, values.len(), &rows)?;
+    let image = Vec::from_slice(alloc, bytes)?;
+    Ok(Partition {
+        image,
+        zones,
+        rows: columns.rows,
+    })
+}
+
+/// The partition of these rows, of which there are few enough.
+fn build_one(alloc: Global, schema: &Schema, rows: &[Row]) -> Result<Partition, AllocError>
+    requires { IsPart (record { kinds = kinds_of schema.now; rows = rows.now }) }
+    ensures { IfOk result (λ p. p ≡ record { kinds = kinds_of schema.now; rows = rows.now }) }
+{
+    let image = image_of(alloc, schema, rows)?;
+    let zones = zones_of(alloc, schema.columns.len(), rows)?;
+    Ok(Partition {
+        image,
+        zones,
+        rows: rows.len() as u32,
+    })
+}
