@@ -80,10 +80,15 @@ fn number_rows(alloc: Global, numbers: &[i64]) -> Result<Vec<Row>, Fail>
     Ok(rows)
 }
 
-/// The rows of a bag of such rows.
-fn number_bag(alloc: Global, numbers: &[i64]) -> Result<SharedRows, Fail> {
-    let bag = Bag::from_rows(alloc, number_rows(alloc, numbers)?)?;
-    Ok(SharedBag::new(alloc, bag)?.in_order()?)
+/// A bag of rows of one number each.
+fn number_bag(alloc: Global, numbers: &[i64]) -> Result<Bag, Fail>
+    ensures { IfOk result (λ bag. All IsPrintable bag) }
+{
+    let mut rows = Vec::new(alloc);
+    for number in numbers {
+        rows.push(number_row(alloc, *number)?)?;
+    }
+    Ok(Bag::from_rows(alloc, rows)?)
 }
 
 #[test]
@@ -99,7 +104,8 @@ fn a_reply_stands_behind_the_entry_that_ends_its_statement(rt: HostRuntime) -> R
     let mut replies = Vec::new(alloc);
     replies.push(Reply::Ok)?;
     replies.push(Reply::Inserted(3))?;
-    let rows = number_bag(alloc, &[2, 1, 2])?;
+    let bag = SharedBag::new(alloc, number_bag(alloc, &[2, 1, 2])?)?;
+    let rows = bag.in_order()?;
     replies.push(Reply::Rows(rows))?;
     let mut out = Vec::new(alloc);
     write_entries(&program(alloc)?, &entries, replies.as_slice(), &mut out)?;
@@ -298,8 +304,8 @@ fn an_entry_is_told_by_its_moment_actor_index_and_kind(rt: HostRuntime) -> Resul
 fn each_reply_has_its_lines(rt: HostRuntime) -> Result<(), Fail> {
     let alloc = rt.alloc();
     let program = program(alloc)?;
-    let no_rows = number_bag(alloc, &[])?;
-    let rows = number_bag(alloc, &[7, -1])?;
+    let no_rows = SharedBag::new(alloc, number_bag(alloc, &[])?)?.in_order()?;
+    let rows = SharedBag::new(alloc, number_bag(alloc, &[7, -1])?)?.in_order()?;
     let listed = SharedRows::new(alloc, number_rows(alloc, &[7, -1, 3])?)?;
     for (reply, wanted) in [
         (Reply::Ok, "= ok\n"),

@@ -5,5 +5,5 @@ use Rattle.tt_value.specs.values.RowText.{IsPrintable}
 use Rattle.tt_value.proofs.values.Bags.{All-bag_of}
 use Rattle.tt_run.proofs.transcript.tests.number_bag.Goals as goal
 
-pub new-requires : goal.new-requires
-new-requires c = subst (λ (rows : List Row). All IsPrintable rows) (sym c.in_ok-from_rows.ensures.value) (All-bag_of IsPrintable c.in_ok-number_rows.rows.items c.in_ok-number_rows.ensures)
+pub returns : goal.returns
+returns c = subst (λ (rows : List Row). All IsPrintable rows) (sym c.in_ok-from_rows.ensures.value) (All-bag_of IsPrintable c.loop-number.rows.items c.loop-number.invariant)
