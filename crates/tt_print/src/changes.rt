@@ -1,8 +1,8 @@
 //! Statements that change the rows of a table.
 #![tactic(auto, unfolding(crate::specs::text::Words::spaced))]
 
-ghost use Rattle.std.specs.Prelude.{◌≡◌, ◌++◌, map, OnOk};
-ghost use Rattle.tt_print.specs.text.Words.{spaced, listed, words_if};
+ghost use Rattle.std.specs.Prelude.{map, OnOk};
+ghost use Rattle.tt_print.specs.text.Words.{listed, words_if, Writes};
 ghost use Rattle.tt_print.specs.text.Changes.{column_list_words, tuple_words, values_words, insert_source_words, insert_words, set_words, update_words, delete_words, copy_words, dml_words};
 
 use crate::expressions::write_expr;
@@ -18,7 +18,7 @@ use tt_value::Name;
 
 /// Writes INSERT, UPDATE, DELETE or COPY, from its first word to its last.
 pub fn write_dml(dml: &Dml, out: &mut Vec<u8>) -> Result<(), AllocError>
-    ensures ok { OnOk result (out.new.items ≡ out.old.items ++ spaced (dml_words dml.now)) }
+    ensures ok { OnOk result (Writes out.old out.new (dml_words dml.now)) }
 {
     match dml {
         Dml::Insert(insert) => write_insert(insert, out),
@@ -29,7 +29,7 @@ pub fn write_dml(dml: &Dml, out: &mut Vec<u8>) -> Result<(), AllocError>
 }
 
 fn write_insert(insert: &Insert, out: &mut Vec<u8>) -> Result<(), AllocError>
-    ensures ok { OnOk result (out.new.items ≡ out.old.items ++ spaced (insert_words insert.now)) }
+    ensures ok { OnOk result (Writes out.old out.new (insert_words insert.now)) }
 {
     write_word(b"INSERT", out)?;
     write_word(b"INTO", out)?;
@@ -40,8 +40,7 @@ fn write_insert(insert: &Insert, out: &mut Vec<u8>) -> Result<(), AllocError>
 }
 
 fn write_column_list_if(columns: &Option<Items<Name>>, out: &mut Vec<u8>) -> Result<(), AllocError>
-    ensures ok { OnOk result (out.new.items
-        ≡ out.old.items ++ spaced (words_if column_list_words columns.now)) }
+    ensures ok { OnOk result (Writes out.old out.new (words_if column_list_words columns.now)) }
 {
     match columns {
         Some(columns) => write_column_list(columns.as_slice(), out),
@@ -50,8 +49,7 @@ fn write_column_list_if(columns: &Option<Items<Name>>, out: &mut Vec<u8>) -> Res
 }
 
 fn write_column_list(columns: &[Name], out: &mut Vec<u8>) -> Result<(), AllocError>
-    ensures ok { OnOk result (out.new.items
-        ≡ out.old.items ++ spaced (column_list_words columns.now)) }
+    ensures ok { OnOk result (Writes out.old out.new (column_list_words columns.now)) }
 {
     write_word(b"(", out)?;
     write_names(columns, out)?;
@@ -60,8 +58,7 @@ fn write_column_list(columns: &[Name], out: &mut Vec<u8>) -> Result<(), AllocErr
 }
 
 fn write_insert_source(source: &InsertSource, out: &mut Vec<u8>) -> Result<(), AllocError>
-    ensures ok { OnOk result (out.new.items
-        ≡ out.old.items ++ spaced (insert_source_words source.now)) }
+    ensures ok { OnOk result (Writes out.old out.new (insert_source_words source.now)) }
 {
     match source {
         InsertSource::Values(tuples) => write_values(tuples.as_slice(), out),
@@ -70,7 +67,7 @@ fn write_insert_source(source: &InsertSource, out: &mut Vec<u8>) -> Result<(), A
 }
 
 fn write_values(tuples: &[Tuple], out: &mut Vec<u8>) -> Result<(), AllocError>
-    ensures ok { OnOk result (out.new.items ≡ out.old.items ++ spaced (values_words tuples.now)) }
+    ensures ok { OnOk result (Writes out.old out.new (values_words tuples.now)) }
 {
     write_word(b"VALUES", out)?;
     write_tuples(tuples, out)?;
@@ -78,8 +75,7 @@ fn write_values(tuples: &[Tuple], out: &mut Vec<u8>) -> Result<(), AllocError>
 }
 
 fn write_tuples(tuples: &[Tuple], out: &mut Vec<u8>) -> Result<(), AllocError>
-    ensures ok { OnOk result (out.new.items
-        ≡ out.old.items ++ spaced (listed (map tuple_words tuples.now))) }
+    ensures ok { OnOk result (Writes out.old out.new (listed (map tuple_words tuples.now))) }
 {
     let Some((first, others)) = tuples.split_first() else {
         return Ok(());
@@ -93,7 +89,7 @@ fn write_tuples(tuples: &[Tuple], out: &mut Vec<u8>) -> Result<(), AllocError>
 }
 
 fn write_tuple(tuple: &Tuple, out: &mut Vec<u8>) -> Result<(), AllocError>
-    ensures ok { OnOk result (out.new.items ≡ out.old.items ++ spaced (tuple_words tuple.now)) }
+    ensures ok { OnOk result (Writes out.old out.new (tuple_words tuple.now)) }
 {
     write_word(b"(", out)?;
     write_literals(tuple.values.as_slice(), out)?;
@@ -102,7 +98,7 @@ fn write_tuple(tuple: &Tuple, out: &mut Vec<u8>) -> Result<(), AllocError>
 }
 
 fn write_update(update: &Update, out: &mut Vec<u8>) -> Result<(), AllocError>
-    ensures ok { OnOk result (out.new.items ≡ out.old.items ++ spaced (update_words update.now)) }
+    ensures ok { OnOk result (Writes out.old out.new (update_words update.now)) }
 {
     write_word(b"UPDATE", out)?;
     write_table_name(&update.table, out)?;
@@ -113,7 +109,7 @@ fn write_update(update: &Update, out: &mut Vec<u8>) -> Result<(), AllocError>
 }
 
 fn write_sets(sets: &[Set], out: &mut Vec<u8>) -> Result<(), AllocError>
-    ensures ok { OnOk result (out.new.items ≡ out.old.items ++ spaced (listed (map set_words sets.now))) }
+    ensures ok { OnOk result (Writes out.old out.new (listed (map set_words sets.now))) }
 {
     let Some((first, others)) = sets.split_first() else {
         return Ok(());
@@ -127,7 +123,7 @@ fn write_sets(sets: &[Set], out: &mut Vec<u8>) -> Result<(), AllocError>
 }
 
 fn write_set(set: &Set, out: &mut Vec<u8>) -> Result<(), AllocError>
-    ensures ok { OnOk result (out.new.items ≡ out.old.items ++ spaced (set_words set.now)) }
+    ensures ok { OnOk result (Writes out.old out.new (set_words set.now)) }
 {
     write_name(&set.column, out)?;
     write_word(b"=", out)?;
@@ -136,7 +132,7 @@ fn write_set(set: &Set, out: &mut Vec<u8>) -> Result<(), AllocError>
 }
 
 fn write_delete(delete: &Delete, out: &mut Vec<u8>) -> Result<(), AllocError>
-    ensures ok { OnOk result (out.new.items ≡ out.old.items ++ spaced (delete_words delete.now)) }
+    ensures ok { OnOk result (Writes out.old out.new (delete_words delete.now)) }
 {
     write_word(b"DELETE", out)?;
     write_word(b"FROM", out)?;
@@ -146,7 +142,7 @@ fn write_delete(delete: &Delete, out: &mut Vec<u8>) -> Result<(), AllocError>
 }
 
 fn write_copy(copy: &Copy, out: &mut Vec<u8>) -> Result<(), AllocError>
-    ensures ok { OnOk result (out.new.items ≡ out.old.items ++ spaced (copy_words copy.now)) }
+    ensures ok { OnOk result (Writes out.old out.new (copy_words copy.now)) }
 {
     write_word(b"COPY", out)?;
     write_word(b"INTO", out)?;

@@ -1,8 +1,8 @@
 //! Expressions.
 #![tactic(auto, unfolding(crate::specs::text::Words::spaced))]
 
-ghost use Rattle.std.specs.Prelude.{◌≡◌, ◌++◌, OnOk};
-ghost use Rattle.tt_print.specs.text.Words.{spaced};
+ghost use Rattle.std.specs.Prelude.{◌≡◌, OnOk};
+ghost use Rattle.tt_print.specs.text.Words.{Writes};
 ghost use Rattle.tt_print.specs.text.Expressions.{expr_words, addend_words, term_words, factor_words, is_zero_factor};
 
 use crate::words::{write_column_name, write_if, write_literal, write_word};
@@ -12,7 +12,7 @@ use tt_value::{Addend, Expr, Factor, Sign, Term, Value};
 /// Writes the terms with their signs between them. Brackets stand just where the tree has them.
 #[cycle(expressions)]
 pub fn write_expr(expr: &Expr, out: &mut Vec<u8>) -> Result<(), AllocError>
-    ensures ok { OnOk result (out.new.items ≡ out.old.items ++ spaced (expr_words expr.now)) }
+    ensures ok { OnOk result (Writes out.old out.new (expr_words expr.now)) }
 {
     write_term(&expr.first, out)?;
     for addend in expr.others.as_slice() {
@@ -23,7 +23,7 @@ pub fn write_expr(expr: &Expr, out: &mut Vec<u8>) -> Result<(), AllocError>
 
 #[cycle(expressions)]
 fn write_addend(addend: &Addend, out: &mut Vec<u8>) -> Result<(), AllocError>
-    ensures ok { OnOk result (out.new.items ≡ out.old.items ++ spaced (addend_words addend.now)) }
+    ensures ok { OnOk result (Writes out.old out.new (addend_words addend.now)) }
 {
     match addend.sign {
         Sign::Plus => write_word(b"+", out)?,
@@ -34,7 +34,7 @@ fn write_addend(addend: &Addend, out: &mut Vec<u8>) -> Result<(), AllocError>
 
 #[cycle(expressions)]
 fn write_term(term: &Term, out: &mut Vec<u8>) -> Result<(), AllocError>
-    ensures ok { OnOk result (out.new.items ≡ out.old.items ++ spaced (term_words term.now)) }
+    ensures ok { OnOk result (Writes out.old out.new (term_words term.now)) }
 {
     write_factor(&term.first, out)?;
     for factor in term.others.as_slice() {
@@ -46,7 +46,7 @@ fn write_term(term: &Term, out: &mut Vec<u8>) -> Result<(), AllocError>
 
 #[cycle(expressions)]
 fn write_factor(factor: &Factor, out: &mut Vec<u8>) -> Result<(), AllocError>
-    ensures ok { OnOk result (out.new.items ≡ out.old.items ++ spaced (factor_words factor.now)) }
+    ensures ok { OnOk result (Writes out.old out.new (factor_words factor.now)) }
 {
     match factor {
         Factor::Literal(literal) => write_literal(literal, out),

@@ -1,9 +1,9 @@
 //! The moments at which tables are read.
 #![tactic(auto, unfolding(crate::specs::text::Words::spaced))]
 
-ghost use Rattle.std.specs.Prelude.{◌≡◌, ◌∷◌, [], ◌++◌, map, OnOk, IsTrue, codes, ◌<◌};
+ghost use Rattle.std.specs.Prelude.{◌≡◌, ◌∷◌, [], map, OnOk, IsTrue, codes, ◌<◌};
 ghost use Rattle.tt_value.specs.calendar.Calendar.{timestamp_text};
-ghost use Rattle.tt_print.specs.text.Words.{spaced, separated, number_words};
+ghost use Rattle.tt_print.specs.text.Words.{separated, number_words, Writes, Adds};
 ghost use Rattle.tt_print.specs.text.Queries.{side_word, timestamp_words, offset_words, id_words, moment_words, is_moment as moment_test, since_year_one as milliseconds_since, clock_of_day, timestamp_since, moment_bytes, moment_word, clause_words};
 ghost use Rattle.tt_sql.specs.trees.Leaves.{IsMoment};
 
@@ -14,7 +14,7 @@ use tt_value::{Number, Quoted, write_date};
 
 /// Writes AT or BEFORE, and the moment in brackets.
 pub fn write_clause(clause: &Clause, out: &mut Vec<u8>) -> Result<(), AllocError>
-    ensures ok { OnOk result (out.new.items ≡ out.old.items ++ spaced (clause_words clause.now)) }
+    ensures ok { OnOk result (Writes out.old out.new (clause_words clause.now)) }
 {
     write_side(clause.side, out)?;
     write_word(b"(", out)?;
@@ -24,7 +24,7 @@ pub fn write_clause(clause: &Clause, out: &mut Vec<u8>) -> Result<(), AllocError
 }
 
 fn write_side(side: Side, out: &mut Vec<u8>) -> Result<(), AllocError>
-    ensures ok { OnOk result (out.new.items ≡ out.old.items ++ spaced (side_word side ∷ [])) }
+    ensures ok { OnOk result (Writes out.old out.new (side_word side ∷ [])) }
 {
     match side {
         Side::At => write_word(b"AT", out),
@@ -33,7 +33,7 @@ fn write_side(side: Side, out: &mut Vec<u8>) -> Result<(), AllocError>
 }
 
 fn write_moment(moment: &Moment, out: &mut Vec<u8>) -> Result<(), AllocError>
-    ensures ok { OnOk result (out.new.items ≡ out.old.items ++ spaced (moment_words moment.now)) }
+    ensures ok { OnOk result (Writes out.old out.new (moment_words moment.now)) }
 {
     match moment {
         Moment::Timestamp(moment) => write_timestamp(*moment, out),
@@ -43,7 +43,7 @@ fn write_moment(moment: &Moment, out: &mut Vec<u8>) -> Result<(), AllocError>
 }
 
 fn write_timestamp(moment: i64, out: &mut Vec<u8>) -> Result<(), AllocError>
-    ensures ok { OnOk result (out.new.items ≡ out.old.items ++ spaced (timestamp_words moment)) }
+    ensures ok { OnOk result (Writes out.old out.new (timestamp_words moment)) }
 {
     write_arrow(b"TIMESTAMP", out)?;
     write_moment_word(moment, out)?;
@@ -52,7 +52,7 @@ fn write_timestamp(moment: i64, out: &mut Vec<u8>) -> Result<(), AllocError>
 
 /// Writes the word and an arrow.
 fn write_arrow(word: &[u8], out: &mut Vec<u8>) -> Result<(), AllocError>
-    ensures ok { OnOk result (out.new.items ≡ out.old.items ++ spaced (word.now ∷ codes "=>" ∷ [])) }
+    ensures ok { OnOk result (Writes out.old out.new (word.now ∷ codes "=>" ∷ [])) }
 {
     write_word(word, out)?;
     write_word(b"=>", out)?;
@@ -60,7 +60,7 @@ fn write_arrow(word: &[u8], out: &mut Vec<u8>) -> Result<(), AllocError>
 }
 
 fn write_offset(offset: &Offset, out: &mut Vec<u8>) -> Result<(), AllocError>
-    ensures ok { OnOk result (out.new.items ≡ out.old.items ++ spaced (offset_words offset.now)) }
+    ensures ok { OnOk result (Writes out.old out.new (offset_words offset.now)) }
 {
     write_word(b"OFFSET", out)?;
     write_word(b"=>", out)?;
@@ -70,7 +70,7 @@ fn write_offset(offset: &Offset, out: &mut Vec<u8>) -> Result<(), AllocError>
 }
 
 fn write_id(id: &Quoted, out: &mut Vec<u8>) -> Result<(), AllocError>
-    ensures ok { OnOk result (out.new.items ≡ out.old.items ++ spaced (id_words id.now)) }
+    ensures ok { OnOk result (Writes out.old out.new (id_words id.now)) }
 {
     write_word(b"STATEMENT", out)?;
     write_word(b"=>", out)?;
@@ -79,8 +79,8 @@ fn write_id(id: &Quoted, out: &mut Vec<u8>) -> Result<(), AllocError>
 }
 
 fn write_factors(factors: &[Number], out: &mut Vec<u8>) -> Result<(), AllocError>
-    ensures ok { OnOk result (out.new.items
-        ≡ out.old.items ++ spaced (separated (codes "*") (map number_words factors.now))) }
+    ensures ok { OnOk result (Writes out.old out.new
+        (separated (codes "*") (map number_words factors.now))) }
 {
     let Some((first, others)) = factors.split_first() else {
         return Ok(());
@@ -94,7 +94,7 @@ fn write_factors(factors: &[Number], out: &mut Vec<u8>) -> Result<(), AllocError
 }
 
 fn write_moment_word(moment: i64, out: &mut Vec<u8>) -> Result<(), AllocError>
-    ensures ok { OnOk result (out.new.items ≡ out.old.items ++ spaced (moment_word moment ∷ [])) }
+    ensures ok { OnOk result (Writes out.old out.new (moment_word moment ∷ [])) }
 {
     out.extend_from_slice(b" '")?;
     write_moment_bytes(moment, out)?;
@@ -103,7 +103,7 @@ fn write_moment_word(moment: i64, out: &mut Vec<u8>) -> Result<(), AllocError>
 }
 
 fn write_moment_bytes(moment: i64, out: &mut Vec<u8>) -> Result<(), AllocError>
-    ensures ok { OnOk result (out.new.items ≡ out.old.items ++ moment_bytes moment) }
+    ensures ok { OnOk result (Adds out.old out.new (moment_bytes moment)) }
 {
     if is_moment(moment) {
         write_since(since_year_one(moment), out)?;
@@ -129,7 +129,7 @@ fn since_year_one(moment: i64) -> u64
 
 fn write_since(since: u64, out: &mut Vec<u8>) -> Result<(), AllocError>
     requires { since < 315537897600000 }
-    ensures ok { OnOk result (out.new.items ≡ out.old.items ++ timestamp_text (timestamp_since since)) }
+    ensures ok { OnOk result (Adds out.old out.new (timestamp_text (timestamp_since since))) }
 {
     let of_day = (since % 86_400_000) as u32;
     write_date((since / 86_400_000) as i32 - 719_162, out)?;

@@ -1,8 +1,8 @@
 //! Predicates.
 #![tactic(auto, unfolding(crate::specs::text::Words::spaced))]
 
-ghost use Rattle.std.specs.Prelude.{◌≡◌, ◌∷◌, [], ◌++◌, OnOk};
-ghost use Rattle.tt_print.specs.text.Words.{spaced, words_if};
+ghost use Rattle.std.specs.Prelude.{◌∷◌, [], OnOk};
+ghost use Rattle.tt_print.specs.text.Words.{words_if, Writes};
 ghost use Rattle.tt_print.specs.text.Predicates.{comparison_word, operand_words, compare_words, is_null_words, in_words, between_words, starts_with_words, predicate_words, conjunction_words, unit_words, filter_words};
 
 use crate::words::{
@@ -13,7 +13,7 @@ use tt_value::{ColumnName, Comparison, Conjunction, Literal, Operand, Predicate,
 
 /// Writes WHERE and the predicate, if there is one.
 pub fn write_filter(filter: &Option<Predicate>, out: &mut Vec<u8>) -> Result<(), AllocError>
-    ensures ok { OnOk result (out.new.items ≡ out.old.items ++ spaced (words_if filter_words filter.now)) }
+    ensures ok { OnOk result (Writes out.old out.new (words_if filter_words filter.now)) }
 {
     match filter {
         Some(predicate) => write_where(predicate, out),
@@ -22,7 +22,7 @@ pub fn write_filter(filter: &Option<Predicate>, out: &mut Vec<u8>) -> Result<(),
 }
 
 fn write_where(predicate: &Predicate, out: &mut Vec<u8>) -> Result<(), AllocError>
-    ensures ok { OnOk result (out.new.items ≡ out.old.items ++ spaced (filter_words predicate.now)) }
+    ensures ok { OnOk result (Writes out.old out.new (filter_words predicate.now)) }
 {
     write_word(b"WHERE", out)?;
     write_predicate(predicate, out)?;
@@ -32,7 +32,7 @@ fn write_where(predicate: &Predicate, out: &mut Vec<u8>) -> Result<(), AllocErro
 /// Writes the conjunctions with OR between them. Brackets stand just where the tree has them.
 #[cycle(predicates)]
 pub fn write_predicate(predicate: &Predicate, out: &mut Vec<u8>) -> Result<(), AllocError>
-    ensures ok { OnOk result (out.new.items ≡ out.old.items ++ spaced (predicate_words predicate.now)) }
+    ensures ok { OnOk result (Writes out.old out.new (predicate_words predicate.now)) }
 {
     write_conjunction(&predicate.first, out)?;
     for conjunction in predicate.others.as_slice() {
@@ -44,8 +44,7 @@ pub fn write_predicate(predicate: &Predicate, out: &mut Vec<u8>) -> Result<(), A
 
 #[cycle(predicates)]
 fn write_conjunction(conjunction: &Conjunction, out: &mut Vec<u8>) -> Result<(), AllocError>
-    ensures ok { OnOk result (out.new.items
-        ≡ out.old.items ++ spaced (conjunction_words conjunction.now)) }
+    ensures ok { OnOk result (Writes out.old out.new (conjunction_words conjunction.now)) }
 {
     write_unit(&conjunction.first, out)?;
     for unit in conjunction.others.as_slice() {
@@ -57,7 +56,7 @@ fn write_conjunction(conjunction: &Conjunction, out: &mut Vec<u8>) -> Result<(),
 
 #[cycle(predicates)]
 fn write_unit(unit: &Unit, out: &mut Vec<u8>) -> Result<(), AllocError>
-    ensures ok { OnOk result (out.new.items ≡ out.old.items ++ spaced (unit_words unit.now)) }
+    ensures ok { OnOk result (Writes out.old out.new (unit_words unit.now)) }
 {
     match unit {
         Unit::Not(unit) => {
@@ -87,8 +86,8 @@ fn write_compare(
     right: &Operand,
     out: &mut Vec<u8>,
 ) -> Result<(), AllocError>
-    ensures ok { OnOk result (out.new.items
-        ≡ out.old.items ++ spaced (compare_words left.now comparison right.now)) }
+    ensures ok { OnOk result (Writes out.old out.new
+        (compare_words left.now comparison right.now)) }
 {
     write_operand(left, out)?;
     write_comparison(comparison, out)?;
@@ -97,8 +96,7 @@ fn write_compare(
 }
 
 fn write_is_null(operand: &Operand, negated: bool, out: &mut Vec<u8>) -> Result<(), AllocError>
-    ensures ok { OnOk result (out.new.items
-        ≡ out.old.items ++ spaced (is_null_words operand.now negated)) }
+    ensures ok { OnOk result (Writes out.old out.new (is_null_words operand.now negated)) }
 {
     write_operand(operand, out)?;
     write_word(b"IS", out)?;
@@ -113,8 +111,7 @@ fn write_in(
     literals: &[Literal],
     out: &mut Vec<u8>,
 ) -> Result<(), AllocError>
-    ensures ok { OnOk result (out.new.items
-        ≡ out.old.items ++ spaced (in_words operand.now negated literals.now)) }
+    ensures ok { OnOk result (Writes out.old out.new (in_words operand.now negated literals.now)) }
 {
     write_operand(operand, out)?;
     write_if(negated, b"NOT", out)?;
@@ -132,8 +129,8 @@ fn write_between(
     greatest: &Literal,
     out: &mut Vec<u8>,
 ) -> Result<(), AllocError>
-    ensures ok { OnOk result (out.new.items
-        ≡ out.old.items ++ spaced (between_words operand.now negated least.now greatest.now)) }
+    ensures ok { OnOk result (Writes out.old out.new
+        (between_words operand.now negated least.now greatest.now)) }
 {
     write_operand(operand, out)?;
     write_if(negated, b"NOT", out)?;
@@ -149,8 +146,7 @@ fn write_starts_with(
     front: &Quoted,
     out: &mut Vec<u8>,
 ) -> Result<(), AllocError>
-    ensures ok { OnOk result (out.new.items
-        ≡ out.old.items ++ spaced (starts_with_words column.now front.now)) }
+    ensures ok { OnOk result (Writes out.old out.new (starts_with_words column.now front.now)) }
 {
     write_word(b"STARTSWITH", out)?;
     write_word(b"(", out)?;
@@ -162,7 +158,7 @@ fn write_starts_with(
 }
 
 fn write_operand(operand: &Operand, out: &mut Vec<u8>) -> Result<(), AllocError>
-    ensures ok { OnOk result (out.new.items ≡ out.old.items ++ spaced (operand_words operand.now)) }
+    ensures ok { OnOk result (Writes out.old out.new (operand_words operand.now)) }
 {
     match operand {
         Operand::Column(column) => write_column_name(column, out),
@@ -171,8 +167,7 @@ fn write_operand(operand: &Operand, out: &mut Vec<u8>) -> Result<(), AllocError>
 }
 
 fn write_comparison(comparison: Comparison, out: &mut Vec<u8>) -> Result<(), AllocError>
-    ensures ok { OnOk result (out.new.items
-        ≡ out.old.items ++ spaced (comparison_word comparison ∷ [])) }
+    ensures ok { OnOk result (Writes out.old out.new (comparison_word comparison ∷ [])) }
 {
     match comparison {
         Comparison::Equal => write_word(b"=", out),

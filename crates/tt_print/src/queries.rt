@@ -1,9 +1,9 @@
 //! Queries, and the moments at which they read.
 #![tactic(auto, unfolding(crate::specs::text::Words::spaced))]
 
-ghost use Rattle.std.specs.Prelude.{◌≡◌, ◌∷◌, [], ◌++◌, map, OnOk, codes};
+ghost use Rattle.std.specs.Prelude.{map, OnOk, codes};
 ghost use Rattle.std.specs.List.{flat_map};
-ghost use Rattle.tt_print.specs.text.Words.{spaced, separated, listed, words_if, column_name_words, number_words};
+ghost use Rattle.tt_print.specs.text.Words.{separated, listed, words_if, column_name_words, Writes};
 ghost use Rattle.tt_print.specs.text.Queries.{clause_words, source_words, pair_words, join_words, count_all_words, aggregate_words, item_words, selection_words, key_column_words, key_words, group_by_words, group_words, order_by_words, order_words, limit_words, selected_words, narrowed_words, query_words};
 
 use crate::expressions::write_expr;
@@ -16,7 +16,7 @@ use tt_value::{ColumnName, Number};
 
 /// Writes the query from SELECT on. A part that it does not have leaves no word.
 pub fn write_query(query: &Query, out: &mut Vec<u8>) -> Result<(), AllocError>
-    ensures ok { OnOk result (out.new.items ≡ out.old.items ++ spaced (query_words query.now)) }
+    ensures ok { OnOk result (Writes out.old out.new (query_words query.now)) }
 {
     write_selected(query, out)?;
     write_narrowed(query, out)?;
@@ -25,7 +25,7 @@ pub fn write_query(query: &Query, out: &mut Vec<u8>) -> Result<(), AllocError>
 
 /// What is selected, and from which tables.
 fn write_selected(query: &Query, out: &mut Vec<u8>) -> Result<(), AllocError>
-    ensures ok { OnOk result (out.new.items ≡ out.old.items ++ spaced (selected_words query.now)) }
+    ensures ok { OnOk result (Writes out.old out.new (selected_words query.now)) }
 {
     write_word(b"SELECT", out)?;
     write_selection(&query.selection, out)?;
@@ -37,7 +37,7 @@ fn write_selected(query: &Query, out: &mut Vec<u8>) -> Result<(), AllocError>
 
 /// Which rows, in which groups and which order, and how many.
 fn write_narrowed(query: &Query, out: &mut Vec<u8>) -> Result<(), AllocError>
-    ensures ok { OnOk result (out.new.items ≡ out.old.items ++ spaced (narrowed_words query.now)) }
+    ensures ok { OnOk result (Writes out.old out.new (narrowed_words query.now)) }
 {
     write_filter(&query.filter, out)?;
     write_group(query.group.as_slice(), out)?;
@@ -47,8 +47,7 @@ fn write_narrowed(query: &Query, out: &mut Vec<u8>) -> Result<(), AllocError>
 }
 
 fn write_selection(selection: &Selection, out: &mut Vec<u8>) -> Result<(), AllocError>
-    ensures ok { OnOk result (out.new.items
-        ≡ out.old.items ++ spaced (selection_words selection.now)) }
+    ensures ok { OnOk result (Writes out.old out.new (selection_words selection.now)) }
 {
     match selection {
         Selection::All(_) => write_word(b"*", out),
@@ -57,8 +56,7 @@ fn write_selection(selection: &Selection, out: &mut Vec<u8>) -> Result<(), Alloc
 }
 
 fn write_items(items: &[Item], out: &mut Vec<u8>) -> Result<(), AllocError>
-    ensures ok { OnOk result (out.new.items
-        ≡ out.old.items ++ spaced (listed (map item_words items.now))) }
+    ensures ok { OnOk result (Writes out.old out.new (listed (map item_words items.now))) }
 {
     let Some((first, others)) = items.split_first() else {
         return Ok(());
@@ -72,7 +70,7 @@ fn write_items(items: &[Item], out: &mut Vec<u8>) -> Result<(), AllocError>
 }
 
 fn write_item(item: &Item, out: &mut Vec<u8>) -> Result<(), AllocError>
-    ensures ok { OnOk result (out.new.items ≡ out.old.items ++ spaced (item_words item.now)) }
+    ensures ok { OnOk result (Writes out.old out.new (item_words item.now)) }
 {
     match item {
         Item::Expr(expr) => write_expr(expr, out),
@@ -85,7 +83,7 @@ fn write_item(item: &Item, out: &mut Vec<u8>) -> Result<(), AllocError>
 }
 
 fn write_count_all(out: &mut Vec<u8>) -> Result<(), AllocError>
-    ensures ok { OnOk result (out.new.items ≡ out.old.items ++ spaced count_all_words) }
+    ensures ok { OnOk result (Writes out.old out.new count_all_words) }
 {
     write_word(b"COUNT", out)?;
     write_word(b"(", out)?;
@@ -95,8 +93,7 @@ fn write_count_all(out: &mut Vec<u8>) -> Result<(), AllocError>
 }
 
 fn write_aggregate(word: &[u8], column: &ColumnName, out: &mut Vec<u8>) -> Result<(), AllocError>
-    ensures ok { OnOk result (out.new.items
-        ≡ out.old.items ++ spaced (aggregate_words word.now column.now)) }
+    ensures ok { OnOk result (Writes out.old out.new (aggregate_words word.now column.now)) }
 {
     write_word(word, out)?;
     write_word(b"(", out)?;
@@ -107,7 +104,7 @@ fn write_aggregate(word: &[u8], column: &ColumnName, out: &mut Vec<u8>) -> Resul
 
 /// Writes the table's name, and AT or BEFORE behind it if it is read at a moment.
 pub fn write_source(source: &Source, out: &mut Vec<u8>) -> Result<(), AllocError>
-    ensures ok { OnOk result (out.new.items ≡ out.old.items ++ spaced (source_words source.now)) }
+    ensures ok { OnOk result (Writes out.old out.new (source_words source.now)) }
 {
     write_table_name(&source.table, out)?;
     write_clause_if(&source.clause, out)?;
@@ -115,7 +112,7 @@ pub fn write_source(source: &Source, out: &mut Vec<u8>) -> Result<(), AllocError
 }
 
 fn write_clause_if(clause: &Option<Clause>, out: &mut Vec<u8>) -> Result<(), AllocError>
-    ensures ok { OnOk result (out.new.items ≡ out.old.items ++ spaced (words_if clause_words clause.now)) }
+    ensures ok { OnOk result (Writes out.old out.new (words_if clause_words clause.now)) }
 {
     match clause {
         Some(clause) => write_clause(clause, out),
@@ -124,8 +121,7 @@ fn write_clause_if(clause: &Option<Clause>, out: &mut Vec<u8>) -> Result<(), All
 }
 
 fn write_joins(joins: &[Join], out: &mut Vec<u8>) -> Result<(), AllocError>
-    ensures ok { OnOk result (out.new.items
-        ≡ out.old.items ++ spaced (flat_map join_words joins.now)) }
+    ensures ok { OnOk result (Writes out.old out.new (flat_map join_words joins.now)) }
 {
     for join in joins {
         write_join(join, out)?;
@@ -134,7 +130,7 @@ fn write_joins(joins: &[Join], out: &mut Vec<u8>) -> Result<(), AllocError>
 }
 
 fn write_join(join: &Join, out: &mut Vec<u8>) -> Result<(), AllocError>
-    ensures ok { OnOk result (out.new.items ≡ out.old.items ++ spaced (join_words join.now)) }
+    ensures ok { OnOk result (Writes out.old out.new (join_words join.now)) }
 {
     write_word(b"JOIN", out)?;
     write_source(&join.source, out)?;
@@ -144,8 +140,8 @@ fn write_join(join: &Join, out: &mut Vec<u8>) -> Result<(), AllocError>
 }
 
 fn write_pairs(pairs: &[Pair], out: &mut Vec<u8>) -> Result<(), AllocError>
-    ensures ok { OnOk result (out.new.items
-        ≡ out.old.items ++ spaced (separated (codes "AND") (map pair_words pairs.now))) }
+    ensures ok { OnOk result (Writes out.old out.new
+        (separated (codes "AND") (map pair_words pairs.now))) }
 {
     let Some((first, others)) = pairs.split_first() else {
         return Ok(());
@@ -159,7 +155,7 @@ fn write_pairs(pairs: &[Pair], out: &mut Vec<u8>) -> Result<(), AllocError>
 }
 
 fn write_pair(pair: &Pair, out: &mut Vec<u8>) -> Result<(), AllocError>
-    ensures ok { OnOk result (out.new.items ≡ out.old.items ++ spaced (pair_words pair.now)) }
+    ensures ok { OnOk result (Writes out.old out.new (pair_words pair.now)) }
 {
     write_column_name(&pair.left, out)?;
     write_word(b"=", out)?;
@@ -168,7 +164,7 @@ fn write_pair(pair: &Pair, out: &mut Vec<u8>) -> Result<(), AllocError>
 }
 
 fn write_group(columns: &[ColumnName], out: &mut Vec<u8>) -> Result<(), AllocError>
-    ensures ok { OnOk result (out.new.items ≡ out.old.items ++ spaced (group_words columns.now)) }
+    ensures ok { OnOk result (Writes out.old out.new (group_words columns.now)) }
 {
     if columns.is_empty() {
         return Ok(());
@@ -177,7 +173,7 @@ fn write_group(columns: &[ColumnName], out: &mut Vec<u8>) -> Result<(), AllocErr
 }
 
 fn write_group_by(columns: &[ColumnName], out: &mut Vec<u8>) -> Result<(), AllocError>
-    ensures ok { OnOk result (out.new.items ≡ out.old.items ++ spaced (group_by_words columns.now)) }
+    ensures ok { OnOk result (Writes out.old out.new (group_by_words columns.now)) }
 {
     write_word(b"GROUP", out)?;
     write_word(b"BY", out)?;
@@ -186,8 +182,7 @@ fn write_group_by(columns: &[ColumnName], out: &mut Vec<u8>) -> Result<(), Alloc
 }
 
 fn write_columns(columns: &[ColumnName], out: &mut Vec<u8>) -> Result<(), AllocError>
-    ensures ok { OnOk result (out.new.items
-        ≡ out.old.items ++ spaced (listed (map column_name_words columns.now))) }
+    ensures ok { OnOk result (Writes out.old out.new (listed (map column_name_words columns.now))) }
 {
     let Some((first, others)) = columns.split_first() else {
         return Ok(());
@@ -201,7 +196,7 @@ fn write_columns(columns: &[ColumnName], out: &mut Vec<u8>) -> Result<(), AllocE
 }
 
 fn write_order(keys: &[Key], out: &mut Vec<u8>) -> Result<(), AllocError>
-    ensures ok { OnOk result (out.new.items ≡ out.old.items ++ spaced (order_words keys.now)) }
+    ensures ok { OnOk result (Writes out.old out.new (order_words keys.now)) }
 {
     if keys.is_empty() {
         return Ok(());
@@ -210,7 +205,7 @@ fn write_order(keys: &[Key], out: &mut Vec<u8>) -> Result<(), AllocError>
 }
 
 fn write_order_by(keys: &[Key], out: &mut Vec<u8>) -> Result<(), AllocError>
-    ensures ok { OnOk result (out.new.items ≡ out.old.items ++ spaced (order_by_words keys.now)) }
+    ensures ok { OnOk result (Writes out.old out.new (order_by_words keys.now)) }
 {
     write_word(b"ORDER", out)?;
     write_word(b"BY", out)?;
@@ -219,8 +214,7 @@ fn write_order_by(keys: &[Key], out: &mut Vec<u8>) -> Result<(), AllocError>
 }
 
 fn write_keys(keys: &[Key], out: &mut Vec<u8>) -> Result<(), AllocError>
-    ensures ok { OnOk result (out.new.items
-        ≡ out.old.items ++ spaced (listed (map key_words keys.now))) }
+    ensures ok { OnOk result (Writes out.old out.new (listed (map key_words keys.now))) }
 {
     let Some((first, others)) = keys.split_first() else {
         return Ok(());
@@ -234,7 +228,7 @@ fn write_keys(keys: &[Key], out: &mut Vec<u8>) -> Result<(), AllocError>
 }
 
 fn write_key(key: &Key, out: &mut Vec<u8>) -> Result<(), AllocError>
-    ensures ok { OnOk result (out.new.items ≡ out.old.items ++ spaced (key_words key.now)) }
+    ensures ok { OnOk result (Writes out.old out.new (key_words key.now)) }
 {
     write_key_column(&key.by, out)?;
     write_if(key.descending, b"DESC", out)?;
@@ -242,7 +236,7 @@ fn write_key(key: &Key, out: &mut Vec<u8>) -> Result<(), AllocError>
 }
 
 fn write_key_column(column: &KeyColumn, out: &mut Vec<u8>) -> Result<(), AllocError>
-    ensures ok { OnOk result (out.new.items ≡ out.old.items ++ spaced (key_column_words column.now)) }
+    ensures ok { OnOk result (Writes out.old out.new (key_column_words column.now)) }
 {
     match column {
         KeyColumn::Column(column) => write_column_name(column, out),
@@ -251,8 +245,7 @@ fn write_key_column(column: &KeyColumn, out: &mut Vec<u8>) -> Result<(), AllocEr
 }
 
 fn write_limit(limit: &Option<Number>, out: &mut Vec<u8>) -> Result<(), AllocError>
-    ensures ok { OnOk result (out.new.items
-        ≡ out.old.items ++ spaced (words_if limit_words limit.now)) }
+    ensures ok { OnOk result (Writes out.old out.new (words_if limit_words limit.now)) }
 {
     if let Some(number) = limit {
         write_word(b"LIMIT", out)?;

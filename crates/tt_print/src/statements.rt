@@ -1,8 +1,8 @@
 //! The one text of a statement: its words, with a blank between any two.
 #![tactic(auto, unfolding(crate::specs::text::Words::spaced))]
 
-ghost use Rattle.std.specs.Prelude.{◌≡◌, ◌∷◌, [], ◌++◌, OnOk, OnErr, codes};
-ghost use Rattle.tt_print.specs.text.Words.{spaced, word_if, quoted, table_name_words};
+ghost use Rattle.std.specs.Prelude.{◌≡◌, ◌∷◌, [], OnOk, OnErr, codes};
+ghost use Rattle.tt_print.specs.text.Words.{word_if, quoted, table_name_words, Writes, Adds};
 ghost use Rattle.tt_print.specs.text.Queries.{query_words};
 ghost use Rattle.tt_print.specs.text.Statements.{unit_text, wait_words, table_text, depth_words, metrics_words, statement_words, statement_text};
 
@@ -17,7 +17,7 @@ use tt_value::TableName;
 /// Appends the one text of a statement. A day or a moment outside the years 1 to 9999, which no statement has, is
 /// written as the empty text `''`. An error leaves what was there.
 pub fn print(statement: &Statement, out: &mut Vec<u8>) -> Result<(), AllocError>
-    ensures ok { OnOk result (out.new.items ≡ out.old.items ++ statement_text statement.now) }
+    ensures ok { OnOk result (Adds out.old out.new (statement_text statement.now)) }
     ensures err { OnErr result (out.new.items ≡ out.old.items) }
 {
     let mut text = Vec::new(*out.allocator());
@@ -29,8 +29,7 @@ pub fn print(statement: &Statement, out: &mut Vec<u8>) -> Result<(), AllocError>
 }
 
 fn write_statement(statement: &Statement, out: &mut Vec<u8>) -> Result<(), AllocError>
-    ensures ok { OnOk result (out.new.items
-        ≡ out.old.items ++ spaced (statement_words statement.now)) }
+    ensures ok { OnOk result (Writes out.old out.new (statement_words statement.now)) }
 {
     match statement {
         Statement::Query(query) => write_query(query, out),
@@ -53,8 +52,7 @@ fn write_statement(statement: &Statement, out: &mut Vec<u8>) -> Result<(), Alloc
 }
 
 fn write_explain(query: &Query, out: &mut Vec<u8>) -> Result<(), AllocError>
-    ensures ok { OnOk result (out.new.items
-        ≡ out.old.items ++ spaced (codes "EXPLAIN" ∷ query_words query.now)) }
+    ensures ok { OnOk result (Writes out.old out.new (codes "EXPLAIN" ∷ query_words query.now)) }
 {
     write_word(b"EXPLAIN", out)?;
     write_query(query, out)?;
@@ -62,8 +60,8 @@ fn write_explain(query: &Query, out: &mut Vec<u8>) -> Result<(), AllocError>
 }
 
 fn write_show(history: bool, out: &mut Vec<u8>) -> Result<(), AllocError>
-    ensures ok { OnOk result (out.new.items
-        ≡ out.old.items ++ spaced (codes "SHOW" ∷ codes "TABLES" ∷ word_if history (codes "HISTORY"))) }
+    ensures ok { OnOk result (Writes out.old out.new
+        (codes "SHOW" ∷ codes "TABLES" ∷ word_if history (codes "HISTORY"))) }
 {
     write_word(b"SHOW", out)?;
     write_word(b"TABLES", out)?;
@@ -73,8 +71,8 @@ fn write_show(history: bool, out: &mut Vec<u8>) -> Result<(), AllocError>
 
 /// Writes the word, TABLE and the table's name.
 fn write_on_table(word: &[u8], table: &TableName, out: &mut Vec<u8>) -> Result<(), AllocError>
-    ensures ok { OnOk result (out.new.items
-        ≡ out.old.items ++ spaced (word.now ∷ codes "TABLE" ∷ table_name_words table.now)) }
+    ensures ok { OnOk result (Writes out.old out.new
+        (word.now ∷ codes "TABLE" ∷ table_name_words table.now)) }
 {
     write_word(word, out)?;
     write_word(b"TABLE", out)?;
@@ -83,7 +81,7 @@ fn write_on_table(word: &[u8], table: &TableName, out: &mut Vec<u8>) -> Result<(
 }
 
 fn write_wait(wait: &Wait, out: &mut Vec<u8>) -> Result<(), AllocError>
-    ensures ok { OnOk result (out.new.items ≡ out.old.items ++ spaced (wait_words wait.now)) }
+    ensures ok { OnOk result (Writes out.old out.new (wait_words wait.now)) }
 {
     write_word(b"CALL", out)?;
     write_word(b"SYSTEM$WAIT", out)?;
@@ -96,7 +94,7 @@ fn write_wait(wait: &Wait, out: &mut Vec<u8>) -> Result<(), AllocError>
 }
 
 fn write_unit(unit: TimeUnit, out: &mut Vec<u8>) -> Result<(), AllocError>
-    ensures ok { OnOk result (out.new.items ≡ out.old.items ++ spaced (quoted (unit_text unit) ∷ [])) }
+    ensures ok { OnOk result (Writes out.old out.new (quoted (unit_text unit) ∷ [])) }
 {
     match unit {
         TimeUnit::Days => write_word(b"'DAYS'", out),
@@ -108,7 +106,7 @@ fn write_unit(unit: TimeUnit, out: &mut Vec<u8>) -> Result<(), AllocError>
 }
 
 fn write_metrics(out: &mut Vec<u8>) -> Result<(), AllocError>
-    ensures ok { OnOk result (out.new.items ≡ out.old.items ++ spaced metrics_words) }
+    ensures ok { OnOk result (Writes out.old out.new metrics_words) }
 {
     write_word(b"SELECT", out)?;
     write_word(b"*", out)?;
@@ -120,7 +118,7 @@ fn write_metrics(out: &mut Vec<u8>) -> Result<(), AllocError>
 }
 
 fn write_depth(table: &TableName, out: &mut Vec<u8>) -> Result<(), AllocError>
-    ensures ok { OnOk result (out.new.items ≡ out.old.items ++ spaced (depth_words table.now)) }
+    ensures ok { OnOk result (Writes out.old out.new (depth_words table.now)) }
 {
     write_word(b"SELECT", out)?;
     write_word(b"SYSTEM$CLUSTERING_DEPTH", out)?;
@@ -131,7 +129,7 @@ fn write_depth(table: &TableName, out: &mut Vec<u8>) -> Result<(), AllocError>
 }
 
 fn write_quoted_name(table: &TableName, out: &mut Vec<u8>) -> Result<(), AllocError>
-    ensures ok { OnOk result (out.new.items ≡ out.old.items ++ spaced (table_text table.now ∷ [])) }
+    ensures ok { OnOk result (Writes out.old out.new (table_text table.now ∷ [])) }
 {
     out.extend_from_slice(b" '")?;
     if let Some(schema) = &table.schema {

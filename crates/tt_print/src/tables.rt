@@ -1,8 +1,8 @@
 //! Statements that make and change tables.
 #![tactic(auto, unfolding(crate::specs::text::Words::spaced))]
 
-ghost use Rattle.std.specs.Prelude.{◌≡◌, ◌∷◌, [], ◌++◌, map, OnOk, codes};
-ghost use Rattle.tt_print.specs.text.Words.{spaced, listed, words_if, table_name_words};
+ghost use Rattle.std.specs.Prelude.{◌∷◌, [], map, OnOk, codes};
+ghost use Rattle.tt_print.specs.text.Words.{listed, words_if, table_name_words, Writes};
 ghost use Rattle.tt_print.specs.text.Tables.{create_words, table_kind_words, kind_word, column_words, cluster_words, retention_words, options_words, created_words, cloned_words, change_words, alter_words};
 
 use crate::queries::write_source;
@@ -13,7 +13,7 @@ use tt_value::{Kind, Name, Number, TableName};
 
 /// Writes CREATE TABLE with its columns. CLUSTER BY stands in front of the retention.
 pub fn write_created(created: &CreatedTable, out: &mut Vec<u8>) -> Result<(), AllocError>
-    ensures ok { OnOk result (out.new.items ≡ out.old.items ++ spaced (created_words created.now)) }
+    ensures ok { OnOk result (Writes out.old out.new (created_words created.now)) }
 {
     write_create(created.replaces, created.kind, out)?;
     write_table_name(&created.table, out)?;
@@ -26,7 +26,7 @@ pub fn write_created(created: &CreatedTable, out: &mut Vec<u8>) -> Result<(), Al
 
 /// Writes CREATE TABLE with CLONE, and the moment of the source if it has one.
 pub fn write_cloned(cloned: &ClonedTable, out: &mut Vec<u8>) -> Result<(), AllocError>
-    ensures ok { OnOk result (out.new.items ≡ out.old.items ++ spaced (cloned_words cloned.now)) }
+    ensures ok { OnOk result (Writes out.old out.new (cloned_words cloned.now)) }
 {
     write_create(cloned.replaces, cloned.kind, out)?;
     write_table_name(&cloned.table, out)?;
@@ -36,8 +36,7 @@ pub fn write_cloned(cloned: &ClonedTable, out: &mut Vec<u8>) -> Result<(), Alloc
 }
 
 fn write_create(replaces: bool, kind: TableKind, out: &mut Vec<u8>) -> Result<(), AllocError>
-    ensures ok { OnOk result (out.new.items
-        ≡ out.old.items ++ spaced (create_words replaces kind)) }
+    ensures ok { OnOk result (Writes out.old out.new (create_words replaces kind)) }
 {
     write_word(b"CREATE", out)?;
     write_if(replaces, b"OR", out)?;
@@ -48,7 +47,7 @@ fn write_create(replaces: bool, kind: TableKind, out: &mut Vec<u8>) -> Result<()
 }
 
 fn write_table_kind(kind: TableKind, out: &mut Vec<u8>) -> Result<(), AllocError>
-    ensures ok { OnOk result (out.new.items ≡ out.old.items ++ spaced (table_kind_words kind)) }
+    ensures ok { OnOk result (Writes out.old out.new (table_kind_words kind)) }
 {
     match kind {
         TableKind::Permanent => Ok(()),
@@ -58,8 +57,7 @@ fn write_table_kind(kind: TableKind, out: &mut Vec<u8>) -> Result<(), AllocError
 }
 
 fn write_columns(columns: &[ColumnDefinition], out: &mut Vec<u8>) -> Result<(), AllocError>
-    ensures ok { OnOk result (out.new.items
-        ≡ out.old.items ++ spaced (listed (map column_words columns.now))) }
+    ensures ok { OnOk result (Writes out.old out.new (listed (map column_words columns.now))) }
 {
     let Some((first, others)) = columns.split_first() else {
         return Ok(());
@@ -73,7 +71,7 @@ fn write_columns(columns: &[ColumnDefinition], out: &mut Vec<u8>) -> Result<(), 
 }
 
 fn write_column(column: &ColumnDefinition, out: &mut Vec<u8>) -> Result<(), AllocError>
-    ensures ok { OnOk result (out.new.items ≡ out.old.items ++ spaced (column_words column.now)) }
+    ensures ok { OnOk result (Writes out.old out.new (column_words column.now)) }
 {
     write_name(&column.name, out)?;
     write_kind(column.kind, out)?;
@@ -83,7 +81,7 @@ fn write_column(column: &ColumnDefinition, out: &mut Vec<u8>) -> Result<(), Allo
 }
 
 fn write_kind(kind: Kind, out: &mut Vec<u8>) -> Result<(), AllocError>
-    ensures ok { OnOk result (out.new.items ≡ out.old.items ++ spaced (kind_word kind ∷ [])) }
+    ensures ok { OnOk result (Writes out.old out.new (kind_word kind ∷ [])) }
 {
     match kind {
         Kind::Int => write_word(b"INT", out),
@@ -93,7 +91,7 @@ fn write_kind(kind: Kind, out: &mut Vec<u8>) -> Result<(), AllocError>
 }
 
 fn write_options(options: &TableOptions, out: &mut Vec<u8>) -> Result<(), AllocError>
-    ensures ok { OnOk result (out.new.items ≡ out.old.items ++ spaced (options_words options.now)) }
+    ensures ok { OnOk result (Writes out.old out.new (options_words options.now)) }
 {
     write_cluster_if(&options.cluster_by, out)?;
     write_retention_if(&options.retention, out)?;
@@ -101,7 +99,7 @@ fn write_options(options: &TableOptions, out: &mut Vec<u8>) -> Result<(), AllocE
 }
 
 fn write_cluster_if(column: &Option<Name>, out: &mut Vec<u8>) -> Result<(), AllocError>
-    ensures ok { OnOk result (out.new.items ≡ out.old.items ++ spaced (words_if cluster_words column.now)) }
+    ensures ok { OnOk result (Writes out.old out.new (words_if cluster_words column.now)) }
 {
     match column {
         Some(column) => write_cluster(column, out),
@@ -110,7 +108,7 @@ fn write_cluster_if(column: &Option<Name>, out: &mut Vec<u8>) -> Result<(), Allo
 }
 
 fn write_retention_if(days: &Option<Number>, out: &mut Vec<u8>) -> Result<(), AllocError>
-    ensures ok { OnOk result (out.new.items ≡ out.old.items ++ spaced (words_if retention_words days.now)) }
+    ensures ok { OnOk result (Writes out.old out.new (words_if retention_words days.now)) }
 {
     match days {
         Some(days) => write_retention(days, out),
@@ -119,7 +117,7 @@ fn write_retention_if(days: &Option<Number>, out: &mut Vec<u8>) -> Result<(), Al
 }
 
 fn write_cluster(column: &Name, out: &mut Vec<u8>) -> Result<(), AllocError>
-    ensures ok { OnOk result (out.new.items ≡ out.old.items ++ spaced (cluster_words column.now)) }
+    ensures ok { OnOk result (Writes out.old out.new (cluster_words column.now)) }
 {
     write_word(b"CLUSTER", out)?;
     write_word(b"BY", out)?;
@@ -130,7 +128,7 @@ fn write_cluster(column: &Name, out: &mut Vec<u8>) -> Result<(), AllocError>
 }
 
 fn write_retention(days: &Number, out: &mut Vec<u8>) -> Result<(), AllocError>
-    ensures ok { OnOk result (out.new.items ≡ out.old.items ++ spaced (retention_words days.now)) }
+    ensures ok { OnOk result (Writes out.old out.new (retention_words days.now)) }
 {
     write_word(b"DATA_RETENTION_TIME_IN_DAYS", out)?;
     write_word(b"=", out)?;
@@ -140,7 +138,7 @@ fn write_retention(days: &Number, out: &mut Vec<u8>) -> Result<(), AllocError>
 
 /// Writes ALTER TABLE, the table's name and the change.
 pub fn write_alter(alter: &Alter, out: &mut Vec<u8>) -> Result<(), AllocError>
-    ensures ok { OnOk result (out.new.items ≡ out.old.items ++ spaced (alter_words alter.now)) }
+    ensures ok { OnOk result (Writes out.old out.new (alter_words alter.now)) }
 {
     write_word(b"ALTER", out)?;
     write_word(b"TABLE", out)?;
@@ -150,7 +148,7 @@ pub fn write_alter(alter: &Alter, out: &mut Vec<u8>) -> Result<(), AllocError>
 }
 
 fn write_change(change: &Change, out: &mut Vec<u8>) -> Result<(), AllocError>
-    ensures ok { OnOk result (out.new.items ≡ out.old.items ++ spaced (change_words change.now)) }
+    ensures ok { OnOk result (Writes out.old out.new (change_words change.now)) }
 {
     match change {
         Change::RenameTo(table) => write_with_table(b"RENAME", b"TO", table, out),
@@ -169,8 +167,8 @@ fn write_with_table(
     table: &TableName,
     out: &mut Vec<u8>,
 ) -> Result<(), AllocError>
-    ensures ok { OnOk result (out.new.items
-        ≡ out.old.items ++ spaced (first.now ∷ second.now ∷ table_name_words table.now)) }
+    ensures ok { OnOk result (Writes out.old out.new
+        (first.now ∷ second.now ∷ table_name_words table.now)) }
 {
     write_word(first, out)?;
     write_word(second, out)?;
@@ -179,8 +177,7 @@ fn write_with_table(
 }
 
 fn write_set_retention(days: &Number, out: &mut Vec<u8>) -> Result<(), AllocError>
-    ensures ok { OnOk result (out.new.items
-        ≡ out.old.items ++ spaced (codes "SET" ∷ retention_words days.now)) }
+    ensures ok { OnOk result (Writes out.old out.new (codes "SET" ∷ retention_words days.now)) }
 {
     write_word(b"SET", out)?;
     write_retention(days, out)?;
@@ -188,8 +185,8 @@ fn write_set_retention(days: &Number, out: &mut Vec<u8>) -> Result<(), AllocErro
 }
 
 fn write_drop_key(out: &mut Vec<u8>) -> Result<(), AllocError>
-    ensures ok { OnOk result (out.new.items
-        ≡ out.old.items ++ spaced (codes "DROP" ∷ codes "CLUSTERING" ∷ codes "KEY" ∷ [])) }
+    ensures ok { OnOk result (Writes out.old out.new
+        (codes "DROP" ∷ codes "CLUSTERING" ∷ codes "KEY" ∷ [])) }
 {
     write_word(b"DROP", out)?;
     write_word(b"CLUSTERING", out)?;
@@ -198,8 +195,7 @@ fn write_drop_key(out: &mut Vec<u8>) -> Result<(), AllocError>
 }
 
 fn write_recluster(word: &[u8], out: &mut Vec<u8>) -> Result<(), AllocError>
-    ensures ok { OnOk result (out.new.items
-        ≡ out.old.items ++ spaced (word.now ∷ codes "RECLUSTER" ∷ [])) }
+    ensures ok { OnOk result (Writes out.old out.new (word.now ∷ codes "RECLUSTER" ∷ [])) }
 {
     write_word(word, out)?;
     write_word(b"RECLUSTER", out)?;

@@ -15,9 +15,9 @@ use Rattle.tt_value.specs.declared.value.Value.TheVariants.{Null, Int, Date, Tex
 use Rattle.tt_sql.specs.grammar.Grammar.{Lexeme, Way, At, Said, Meant, Tok, Note, Spells, token, note, both, is_of, nowhere}
 use Rattle.tt_sql.specs.grammar.Written.{written_rule, literal, other_literal}
 use Rattle.tt_sql.specs.grammar.Combinators.{placed, one, ◌▸◌, way, as_negative, as_date}
-use Rattle.tt_sql.specs.grammar.TokenKinds.{NULL, MINUS, DATE, DATE_TEXT, SHORT_NUMBER, NUMBER, LEAST_NUMBER, is_negative, word_kind, sign_kind, number_kind, text_kind, lexeme, unquoted, undoubled}
+use Rattle.tt_sql.specs.grammar.TokenKinds.{NULL, MINUS, DATE, DATE_TEXT, SHORT_NUMBER, NUMBER, LEAST_NUMBER, is_negative, word_kind, sign_kind, number_kind, text_kind, lexeme, unquoted, undoubled, token_kind}
 use Rattle.tt_print.specs.text.Words.{value_words, day_word, is_day}
-use Rattle.tt_print.specs.again.Tokens.{token_kind, IsToken, AreTokens}
+use Rattle.tt_print.specs.again.Tokens.{IsToken, AreTokens}
 use Rattle.tt_print.specs.again.Spelling.{IsSpelledBy}
 use Rattle.tt_sql.specs.marks.Expressions.{value_marks}
 use Rattle.tt_sql.specs.trees.Leaves.{IsWrittenValue}

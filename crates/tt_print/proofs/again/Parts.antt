@@ -8,10 +8,10 @@ use Rattle.tt_sql.specs.trees.Lists.{Each, IsListed, WhenThere}
 use Rattle.tt_sql.specs.grammar.Grammar.{Lexeme, Mark, Way, At, Gram, Rule, Tok, Both, Either, Many, Again, Spells, token, note, both, more, enough, again, is_of, nowhere}
 use Rattle.tt_sql.specs.grammar.Written.{written_rule}
 use Rattle.tt_sql.specs.grammar.Combinators.{way, one, placed, maybe, brackets, listed}
-use Rattle.tt_sql.specs.grammar.TokenKinds.{COMMA, lexeme, sign_kind}
+use Rattle.tt_sql.specs.grammar.TokenKinds.{COMMA, lexeme, sign_kind, token_kind}
 use Rattle.tt_print.specs.text.Words.{Words, listed as listed_words, words_if, word_if}
 use Rattle.tt_sql.specs.marks.Expressions.{repeated, listed_marks, maybe_marks, flag_marks}
-use Rattle.tt_print.specs.again.Tokens.{token_kind, AreTokens}
+use Rattle.tt_print.specs.again.Tokens.{AreTokens}
 use Rattle.tt_print.specs.again.Spelling.{place_behind, IsReadAs}
 use Rattle.tt_print.specs.places.Marks.{unplaced}
 use Rattle.tt_print.proofs.again.Spelling.{in_turn, here, later, word_of, noted}

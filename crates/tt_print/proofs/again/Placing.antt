@@ -14,9 +14,9 @@ use Rattle.tt_lex.specs.Lexis.{Piece, Blank, LineComment, BlockComment, Word, Nu
 use Rattle.tt_lex.specs.TokensOf.{tokens_of}
 use Rattle.tt_lex.proofs.Function.{tokens_law}
 use Rattle.tt_lex.proofs.OneWay.{any_byte, any_bytes}
-use Rattle.tt_sql.specs.grammar.TokenKinds.{lexeme, lexemes}
+use Rattle.tt_sql.specs.grammar.TokenKinds.{lexeme, lexemes, token_kind}
 use Rattle.tt_print.specs.text.Words.{spaced}
-use Rattle.tt_print.specs.again.Tokens.{token_kind, IsToken, AreTokens, tokens_at, lexemes_at}
+use Rattle.tt_print.specs.again.Tokens.{IsToken, AreTokens, tokens_at, lexemes_at}
 use Rattle.tt_print.proofs.text.Joining.{joined}
 
 -- ---- signs

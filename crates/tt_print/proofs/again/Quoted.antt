@@ -16,9 +16,8 @@ use Rattle.tt_value.specs.values.RowText.{quotes_doubled}
 use Rattle.tt_sql.specs.grammar.Grammar.{Lexeme, Way, Said, Meant, Tok, Note, Both, Spells, token, note, both, right, is_of}
 use Rattle.tt_sql.specs.grammar.Written.{written_rule, name_and_number, only_number}
 use Rattle.tt_sql.specs.grammar.Combinators.{◌▸◌, ◌∣◌, one, number, quoted as quoted_part, as_number}
-use Rattle.tt_sql.specs.grammar.TokenKinds.{BY, CLUSTER, OPEN, CLOSE, NAME, upper, unit_words, is_word, is_name, word_kind, SHORT_NUMBER, NUMBER, OTHER_TEXT, is_number, is_quoted, number_kind, text_kind, lexeme, unquoted, undoubled}
+use Rattle.tt_sql.specs.grammar.TokenKinds.{BY, CLUSTER, OPEN, CLOSE, NAME, upper, unit_words, is_word, is_name, word_kind, SHORT_NUMBER, NUMBER, OTHER_TEXT, is_number, is_quoted, number_kind, text_kind, lexeme, unquoted, undoubled, token_kind}
 use Rattle.tt_print.specs.text.Words.{quoted}
-use Rattle.tt_print.specs.again.Tokens.{token_kind}
 use Rattle.tt_print.specs.again.Spelling.{IsSpelledBy}
 
 -- ---- numbers

@@ -9,9 +9,9 @@ use Rattle.tt_sql.specs.grammar.Grammar.{Lexeme, Mark, Way, Said, Gram, Tok, Not
 use Rattle.tt_sql.specs.grammar.Statements.{IsStatement}
 use Rattle.tt_sql.specs.grammar.Written.{written_rule, statement}
 use Rattle.tt_sql.specs.grammar.Combinators.{way, name}
-use Rattle.tt_sql.specs.grammar.TokenKinds.{NAME, lexeme, word_kind, is_name}
+use Rattle.tt_sql.specs.grammar.TokenKinds.{NAME, lexeme, word_kind, is_name, token_kind}
 use Rattle.tt_print.specs.text.Words.{Words}
-use Rattle.tt_print.specs.again.Tokens.{token_kind, lexemes_at}
+use Rattle.tt_print.specs.again.Tokens.{lexemes_at}
 use Rattle.tt_print.specs.again.Spelling.{place_behind, onto, IsSpelledBy}
 use Rattle.tt_sql.specs.trees.Leaves.{IsNameText}
 use Rattle.tt_print.proofs.again.Placing.{word_no_digit}

@@ -19,14 +19,14 @@ use Rattle.tt_sql.specs.declared.statement.Wait.{Wait}
 use Rattle.tt_sql.specs.grammar.Grammar.{Lexeme, Way, Said, Note, Spells, token, note, both, is_of}
 use Rattle.tt_sql.specs.grammar.Written.{written_rule, drop_table, undrop, truncate, begin, commit, rollback, wait, show, metrics, depth, statement as statement_part}
 use Rattle.tt_sql.specs.grammar.Combinators.{◌▸◌, one, quoted_name, is_unit_text, as_unit}
-use Rattle.tt_sql.specs.grammar.TokenKinds.{UNIT_TEXT, NAME_TEXT, upper, unit_words, word_kind, sign_kind, text_kind, lexeme, unquoted, undoubled}
+use Rattle.tt_sql.specs.grammar.TokenKinds.{UNIT_TEXT, NAME_TEXT, upper, unit_words, word_kind, sign_kind, text_kind, lexeme, unquoted, undoubled, token_kind}
 use Rattle.tt_print.specs.text.Words.{quoted, word_if, table_name_words}
 use Rattle.tt_print.specs.text.Changes.{dml_words}
 use Rattle.tt_print.specs.text.Statements.{unit_text, wait_words, front_text, depth_words, metrics_words, statement_words}
 use Rattle.tt_sql.specs.marks.Expressions.{flag_marks, qualified, table_marks}
 use Rattle.tt_sql.specs.marks.Changes.{dml_marks}
 use Rattle.tt_sql.specs.marks.Statements.{unit_number, wait_marks, statement_marks}
-use Rattle.tt_print.specs.again.Tokens.{token_kind, IsToken}
+use Rattle.tt_print.specs.again.Tokens.{IsToken}
 use Rattle.tt_sql.specs.trees.Leaves.{IsNameText}
 use Rattle.tt_print.specs.again.Spelling.{IsReadAs}
 use Rattle.tt_sql.specs.trees.Expressions.{IsWrittenTable}

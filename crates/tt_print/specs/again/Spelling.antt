@@ -1,12 +1,17 @@
 -- How the words of a printed statement are spelled by the grammar.
-use Rattle.std.specs.Prelude.{◌≡◌, ℕ, ◌+◌, false, List, [], ◌∷◌, ◌++◌, length, None}
+use Rattle.std.specs.Prelude.{◌≡◌, ℕ, ◌+◌, false, List, [], ◌∷◌, ◌++◌, length, None, codes}
 use Rattle.tt_value.specs.declared.name.Name.{Name}
+use Rattle.tt_value.specs.declared.name.Quoted.{Quoted}
 use Rattle.tt_value.specs.declared.name.TableName.{TableName}
-use Rattle.tt_sql.specs.grammar.Grammar.{Lexeme, Mark, Gram, Spells}
+use Rattle.tt_sql.specs.declared.change.Dml.TheVariants.{Copy as CopyRows}
+use Rattle.tt_sql.specs.declared.table.Change.{Change}
+use Rattle.tt_sql.specs.grammar.Grammar.{Lexeme, Mark, Way, Said, Gram, Spells}
+use Rattle.tt_sql.specs.grammar.Statements.{IsStatement}
 use Rattle.tt_sql.specs.grammar.Written.{written_rule}
 use Rattle.tt_print.specs.places.Marks.{unplaced}
 use Rattle.tt_print.specs.text.Words.{Words}
 use Rattle.tt_sql.specs.declared.statement.Statement.{Statement}
+use Rattle.tt_sql.specs.declared.statement.Statement.TheVariants.{Alter, Dml}
 use Rattle.tt_print.specs.text.Statements.{statement_words}
 use Rattle.tt_print.specs.again.Tokens.{AreTokens, lexemes_at}
 
@@ -39,3 +44,30 @@ plain name = record { schema = None; name = name }
 -- the tokens of a printed statement, as the grammar sees them
 abbrev pub printed_lexemes : Statement → List Lexeme
 printed_lexemes statement = lexemes_at 0 (statement_words statement)
+
+-- ---- what is printed
+
+-- The words of these things, with at most so many levels, spell this part and note these marks again, but for the places.
+abbrev pub AreReadAs : {T : Type 0} → (ℕ → T → Type 0) → (ℕ → Gram) → (T → Words) → (T → List Mark) → Type 0
+AreReadAs {T = T} IsWritten part words marks =
+    (levels : ℕ) (x : T) → IsWritten levels x → IsReadAs (part levels) (words x) (marks x)
+
+-- the printed tokens are a statement again, which notes these marks
+abbrev pub PrintNotes : Statement → List Mark → Type 0
+PrintNotes statement m = (levels : ℕ) → IsStatement levels m (printed_lexemes statement)
+
+-- the same of ALTER TABLE with a change that notes these marks
+abbrev pub AlterNotes : Name → Change → List Mark → Type 0
+AlterNotes table change m =
+    PrintNotes (Alter (record { table = plain table; change = change })) (Said table.text 12 ∷ (m ++ Way 10 ∷ []))
+
+-- the place behind ALTER TABLE, a name and further words
+abbrev pub place_in_alter : Name → Words → ℕ
+place_in_alter table words = place_behind 0 (codes "ALTER" ∷ codes "TABLE" ∷ table.text ∷ words)
+
+-- COPY INTO a table FROM a file, and the place of the file's name
+abbrev pub copy_rows : Name → Quoted → Statement
+copy_rows table file = Dml (CopyRows (record { table = plain table; file = file }))
+
+abbrev pub file_place : Name → ℕ
+file_place table = place_behind 0 (codes "COPY" ∷ codes "INTO" ∷ table.text ∷ codes "FROM" ∷ [])

@@ -1,22 +1,12 @@
 -- The tokens of a printed statement are its words, each where it stands in the text.
-use Rattle.std.specs.Prelude.{◌≡◌, ℕ, ◌+◌, if◌then◌else◌, List, [], ◌∷◌, length, Some}
-use Rattle.std.specs.Char.{is_ascii_digit}
+use Rattle.std.specs.Prelude.{◌≡◌, ℕ, ◌+◌, List, [], ◌∷◌, length, Some}
 use Rattle.tt_lex.specs.declared.Token.{Token}
 use Rattle.tt_lex.specs.declared.TokenKind.{TokenKind}
-use Rattle.tt_lex.specs.declared.TokenKind.TheVariants as kinds
-use Rattle.tt_lex.specs.Lexis.{Piece, IsPiece, spelling, kind_of, is_word_start, is_quote}
+use Rattle.tt_lex.specs.Lexis.{Piece, IsPiece, spelling, kind_of}
 use Rattle.tt_sql.specs.grammar.Grammar.{Lexeme}
-use Rattle.tt_sql.specs.grammar.TokenKinds.{lexeme}
+use Rattle.tt_sql.specs.grammar.TokenKinds.{lexeme, token_kind}
 use Rattle.tt_sql.specs.declared.statement.Statement.{Statement}
 use Rattle.tt_print.specs.text.Statements.{statement_words}
-
--- the kind of a token, by its first byte
-abbrev pub token_kind : List ℕ → TokenKind
-token_kind [] = kinds.Sign
-token_kind (b ∷ bytes) =
-    if is_ascii_digit b then kinds.Number
-    else (if is_word_start b then kinds.Word
-    else (if is_quote b then kinds.Quoted else kinds.Sign))
 
 -- this word is one token of the lexer
 pub record IsToken (word : List ℕ) : Type 0 where
@@ -38,6 +28,10 @@ IsWritable statement = AreTokens (statement_words statement)
 abbrev pub tokens_at : ℕ → List (List ℕ) → List Token
 tokens_at at [] = []
 tokens_at at (word ∷ words) = record { start = at; «end» = at + length word; kind = token_kind word } ∷ tokens_at (at + length word + 1) words
+
+-- the tokens of a printed statement
+abbrev pub printed_tokens : Statement → List Token
+printed_tokens statement = tokens_at 0 (statement_words statement)
 
 -- the same as the grammar sees them
 abbrev pub lexemes_at : ℕ → List (List ℕ) → List Lexeme

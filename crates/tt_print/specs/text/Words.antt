@@ -1,5 +1,6 @@
 -- The words of names, numbers, texts and literals. A word is the text of one token, as a list of bytes.
-use Rattle.std.specs.Prelude.{ℕ, suc, Bool, true, false, ◌&&◌, if◌then◌else◌, List, [], ◌∷◌, ◌++◌, Option, Some, None, codes, ℤ, pos, negsuc, neg_ℤ, int_le}
+use Rattle.std.specs.Prelude.{◌≡◌, ℕ, suc, Bool, true, false, ◌&&◌, if◌then◌else◌, List, [], ◌∷◌, ◌++◌, Option, Some, None, codes, ℤ, pos, negsuc, neg_ℤ, int_le}
+use Rattle.std.specs.Global.{Vec}
 use Rattle.std.specs.Fmt.{decimal}
 use Rattle.std.specs.List.{flat_map}
 use Rattle.tt_value.specs.calendar.Calendar.{day_text}
@@ -22,6 +23,14 @@ Words = List (List ℕ)
 -- a blank, which is byte 32, in front of each word
 unfoldable pub spaced : Words → List ℕ
 spaced words = flat_map (λ word. 32 ∷ word) words
+
+-- bytes were added behind what stood there
+abbrev pub Adds : Vec ℕ → Vec ℕ → List ℕ → Type 0
+Adds old new bytes = new.items ≡ old.items ++ bytes
+
+-- words were written behind what stood there, each with a blank in front
+abbrev pub Writes : Vec ℕ → Vec ℕ → Words → Type 0
+Writes old new words = Adds old new (spaced words)
 
 -- the words of several things, with a word between any two
 abbrev pub separated : List ℕ → List Words → Words

@@ -22,34 +22,34 @@ pub returns-clause-metrics : goal.returns-clause-metrics
 returns-clause-metrics c = metrics_read
 
 pub returns-clause-drop : goal.returns-clause-drop
-returns-clause-drop c = λ levels table is. dropped levels table is
+returns-clause-drop c = λ table is levels. dropped levels table is
 
 pub returns-clause-undrop : goal.returns-clause-undrop
-returns-clause-undrop c = λ levels table is. undropped levels table is
+returns-clause-undrop c = λ table is levels. undropped levels table is
 
 pub returns-clause-truncate : goal.returns-clause-truncate
-returns-clause-truncate c = λ levels table is. truncated levels table is
+returns-clause-truncate c = λ table is levels. truncated levels table is
 
 pub returns-clause-copy : goal.returns-clause-copy
-returns-clause-copy c = λ levels file table is. copied levels table is file
+returns-clause-copy c = λ file table is levels. copied levels table is file
 
 pub returns-clause-rename : goal.returns-clause-rename
-returns-clause-rename c = λ levels table other is new. altered levels table (RenameTo (plain other)) _ is (renamed _ other new)
+returns-clause-rename c = λ table other is new levels. altered levels table (RenameTo (plain other)) _ is (renamed _ other new)
 
 pub returns-clause-swap : goal.returns-clause-swap
-returns-clause-swap c = λ levels table other is new. altered levels table (SwapWith (plain other)) _ is (swapped _ other new)
+returns-clause-swap c = λ table other is new levels. altered levels table (SwapWith (plain other)) _ is (swapped _ other new)
 
 pub returns-clause-retention : goal.returns-clause-retention
-returns-clause-retention c = λ levels table days is less. altered levels table (SetRetention days) _ is (retained _ days less)
+returns-clause-retention c = λ table days is less levels. altered levels table (SetRetention days) _ is (retained _ days less)
 
 pub returns-clause-cluster : goal.returns-clause-cluster
-returns-clause-cluster c = λ levels table column is key. altered levels table (ClusterBy column) _ is (clustered _ column key)
+returns-clause-cluster c = λ table column is key levels. altered levels table (ClusterBy column) _ is (clustered _ column key)
 
 pub returns-clause-drop_key : goal.returns-clause-drop_key
-returns-clause-drop_key c = λ levels table is. altered levels table DropClusteringKey _ is (key_dropped _)
+returns-clause-drop_key c = λ table is levels. altered levels table DropClusteringKey _ is (key_dropped _)
 
 pub returns-clause-suspend : goal.returns-clause-suspend
-returns-clause-suspend c = λ levels table is. altered levels table SuspendRecluster _ is (suspended _)
+returns-clause-suspend c = λ table is levels. altered levels table SuspendRecluster _ is (suspended _)
 
 pub returns-clause-resume : goal.returns-clause-resume
-returns-clause-resume c = λ levels table is. altered levels table ResumeRecluster _ is (resumed _)
+returns-clause-resume c = λ table is levels. altered levels table ResumeRecluster _ is (resumed _)
