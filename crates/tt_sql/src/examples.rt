@@ -48,8 +48,8 @@ pub fn answers_by_example()
     ensures sum_of_nothing { item_value scope [] (item.Sum 0 x) ≡ Some Null }
     ensures sum_out_of_range { item_value scope (ints (9223372036854775807 ∷ 1 ∷ []))
         (item.Sum 0 x) ≡ None }
-    ensures least_text { item_value scope (s_row (codes "b") ∷ s_row (codes "a") ∷ null_row ∷ [])
-        (item.Min 0 s) ≡ Some (Text (codes "a")) }
+    ensures least_text { item_value scope
+        (s_row (codes "b") ∷ s_row (codes "a") ∷ null_row ∷ []) (item.Min 0 s) ≡ Some (Text (codes "a")) }
     // SELECT COUNT(*) over no rows, with and without GROUP BY
     ensures count_of_none { answer count_all [] ≡ Some (just_ints (0 ∷ [])) }
     ensures no_groups { answer count_all_by_x [] ≡ Some [] }

@@ -22,9 +22,9 @@ use Rattle.tt_sql.specs.marks.Expressions.{repeated, qualified, value_marks, lit
 use Rattle.tt_sql.proofs.marks.Expressions.{marks-Not, marks-Group, marks-Compare, marks-IsNull, marks-In, marks-Between, marks-StartsWith, marks-Conjunction, marks-Predicate}
 use Rattle.tt_sql.specs.determined.Expressions.{OfLiteral, AreGiven, joined, operand_leaves, literals_leaves, unit_leaves, conjunction_leaves, IsGivenUnit, IsGivenConjunction, IsGivenPredicate}
 use Rattle.tt_sql.proofs.determined.Expressions.{given_both, given_each, given_literals, leaves-Not, leaves-Group, leaves-Compare, leaves-IsNull, leaves-In, leaves-Between, leaves-StartsWith, leaves-Conjunction, leaves-Predicate}
-use Rattle.tt_sql.specs.machine.ExpressionTrees.{Reader, go_on, read_all, read_literal}
-use Rattle.tt_sql.specs.machine.PredicateTrees.{comparison_of, literal_operand, with_list, with_greatest, with_literal, with_way, behind_operand, conjunction_rest, read_conjunction_by, predicate_rest, read_predicate_by, unit_by, read_unit, read_predicate}
-use Rattle.tt_sql.proofs.machine.ExpressionTrees.{Reads, some_is_none, all_reads, value_reads, one_tree}
+use Rattle.tt_sql.specs.machine.ExpressionTrees.{Reader, go_on, marked_all, marked_literal}
+use Rattle.tt_sql.specs.machine.PredicateTrees.{comparison_of, literal_operand, with_list, with_greatest, with_literal, with_way, behind_operand, conjunction_rest, marked_conjunction_by, predicate_rest, marked_predicate_by, unit_by, marked_unit, marked_predicate}
+use Rattle.tt_sql.proofs.machine.ExpressionTrees.{ReadsBack, some_is_none, all_reads, value_reads, one_tree}
 
 -- ---- the shapes of trees
 
@@ -100,13 +100,13 @@ module _ (a : Operand) where
   literal_way i (Text text) place g rest = refl
   literal_way i (Date day) place g rest = ap (λ (o : Option (Literal × List Mark)). go_on o (with_literal a i)) (value_reads (Date day) place g rest)
 
-  another_literal : (i : ℕ) (l : Literal) (v : Value) (place : ℕ) (ms : List (List Mark)) (rest : List Mark) → with_literal a i l (repeated (value_marks v place ∷ ms) ++ rest) ≡ go_on (read_all read_literal (repeated (value_marks v place ∷ ms) ++ rest)) (with_list a i l)
+  another_literal : (i : ℕ) (l : Literal) (v : Value) (place : ℕ) (ms : List (List Mark)) (rest : List Mark) → with_literal a i l (repeated (value_marks v place ∷ ms) ++ rest) ≡ go_on (marked_all marked_literal (repeated (value_marks v place ∷ ms) ++ rest)) (with_list a i l)
   another_literal i l Null place ms rest = refl
   another_literal i l (Int n) place ms rest = refl
   another_literal i l (Text text) place ms rest = refl
   another_literal i l (Date day) place ms rest = refl
 
-  more_literals : (i : ℕ) (l : Literal) (literals : List Literal) (rest : List Mark) → with_literal a i l (repeated (map literal_marks literals) ++ rest) ≡ go_on (read_all read_literal (repeated (map literal_marks literals) ++ rest)) (with_list a i l)
+  more_literals : (i : ℕ) (l : Literal) (literals : List Literal) (rest : List Mark) → with_literal a i l (repeated (map literal_marks literals) ++ rest) ≡ go_on (marked_all marked_literal (repeated (map literal_marks literals) ++ rest)) (with_list a i l)
   more_literals i l [] rest = refl
   more_literals i l (x ∷ literals) rest = another_literal i l x.value x.place (map literal_marks literals) rest
 
@@ -116,7 +116,7 @@ module _ (a : Operand) where
       ap (with_way a i) (append_assoc (literal_marks l ++ ms) (Way 4 ∷ []) rest ∙ append_assoc (literal_marks l) ms (Way 4 ∷ rest))
       ∙ literal_way i l.value l.place g (ms ++ (Way 4 ∷ rest))
       ∙ more_literals i l literals (Way 4 ∷ rest)
-      ∙ ap (λ (o : Option (List Literal × List Mark)). go_on o (with_list a i l)) (all_reads literal_marks (λ x. IsPrintableValue x.value) (suc (length ms)) read_literal (λ x h less later. value_reads x.value x.place h later) literals (given_literals literals gs) (omega arith) (Way 4 ∷ rest))
+      ∙ ap (λ (o : Option (List Literal × List Mark)). go_on o (with_list a i l)) (all_reads literal_marks (λ x. IsPrintableValue x.value) (suc (length ms)) marked_literal (λ x h less later. value_reads x.value x.place h later) literals (given_literals literals gs) (omega arith) (Way 4 ∷ rest))
 
   in_end : (negated : Bool) (literals : List Literal) → AreGiven (literals_leaves literals) → (rest : List Mark) → behind_operand a ((flag_marks negated ++ (listed_marks (map literal_marks literals) ++ Way 4 ∷ [])) ++ rest) ≡ Some (unit.In a negated literals, rest)
   in_end false [] g rest = refl
@@ -146,28 +146,28 @@ starts_case r (Some x) name front e rest = absurd (some_is_none x e)
 
 -- ---- predicates, given a reader of their units
 
-module _ (n : ℕ) (r : Reader Test) (good : Reads unit_marks IsGivenUnit n r) where
-  conjunction_by_reads : Reads conjunction_marks IsGivenConjunction n (read_conjunction_by r)
-  conjunction_by_reads = by_conjunction (λ c. IsGivenConjunction c → length (conjunction_marks c) < n → (rest : List Mark) → read_conjunction_by r (conjunction_marks c ++ rest) ≡ Some (c, rest)) (λ u others given less rest.
+module _ (n : ℕ) (r : Reader Test) (good : ReadsBack unit_marks IsGivenUnit n r) where
+  conjunction_by_reads : ReadsBack conjunction_marks IsGivenConjunction n (marked_conjunction_by r)
+  conjunction_by_reads = by_conjunction (λ c. IsGivenConjunction c → length (conjunction_marks c) < n → (rest : List Mark) → marked_conjunction_by r (conjunction_marks c ++ rest) ≡ Some (c, rest)) (λ u others given less rest.
       let parts = given_both (unit_leaves u) (joined (map unit_leaves others)) (subst AreGiven (leaves-Conjunction u others) given) in
       let ms = repeated (map unit_marks others) in
       let size : length (conjunction_marks (roll-Conjunction (record { first = u; others = others }))) ≡ length (unit_marks u) + length ms = ap length (marks-Conjunction u others) ∙ length-append (unit_marks u) ms in
-      ap (λ (z : List Mark). read_conjunction_by r (z ++ rest)) (marks-Conjunction u others)
-      ∙ ap (read_conjunction_by r) (append_assoc (unit_marks u) ms rest)
+      ap (λ (z : List Mark). marked_conjunction_by r (z ++ rest)) (marks-Conjunction u others)
+      ∙ ap (marked_conjunction_by r) (append_assoc (unit_marks u) ms rest)
       ∙ ap (λ (o : Option (Test × List Mark)). go_on o (conjunction_rest r)) (good u parts.0 (omega (arith, size, less)) (ms ++ rest))
       ∙ ap (λ (o : Option (List Test × List Mark)). go_on o (λ xs later. Some (roll-Conjunction (record { first = u; others = xs }), later))) (all_reads unit_marks IsGivenUnit n r good others (given_each unit_leaves others parts.1) (omega (arith, size, less)) rest))
 
-  pub predicate_by_reads : Reads predicate_marks IsGivenPredicate n (read_predicate_by r)
-  predicate_by_reads = by_predicate (λ p. IsGivenPredicate p → length (predicate_marks p) < n → (rest : List Mark) → read_predicate_by r (predicate_marks p ++ rest) ≡ Some (p, rest)) (λ c others given less rest.
+  pub predicate_by_reads : ReadsBack predicate_marks IsGivenPredicate n (marked_predicate_by r)
+  predicate_by_reads = by_predicate (λ p. IsGivenPredicate p → length (predicate_marks p) < n → (rest : List Mark) → marked_predicate_by r (predicate_marks p ++ rest) ≡ Some (p, rest)) (λ c others given less rest.
       let parts = given_both (conjunction_leaves c) (joined (map conjunction_leaves others)) (subst AreGiven (leaves-Predicate c others) given) in
       let ms = repeated (map conjunction_marks others) in
       let size : length (predicate_marks (roll-Predicate (record { first = c; others = others }))) ≡ length (conjunction_marks c) + length ms = ap length (marks-Predicate c others) ∙ length-append (conjunction_marks c) ms in
-      ap (λ (z : List Mark). read_predicate_by r (z ++ rest)) (marks-Predicate c others)
-      ∙ ap (read_predicate_by r) (append_assoc (conjunction_marks c) ms rest)
+      ap (λ (z : List Mark). marked_predicate_by r (z ++ rest)) (marks-Predicate c others)
+      ∙ ap (marked_predicate_by r) (append_assoc (conjunction_marks c) ms rest)
       ∙ ap (λ (o : Option (Conjunction × List Mark)). go_on o (predicate_rest r)) (conjunction_by_reads c parts.0 (omega (arith, size, less)) (ms ++ rest))
-      ∙ ap (λ (o : Option (List Conjunction × List Mark)). go_on o (λ xs later. Some (roll-Predicate (record { first = c; others = xs }), later))) (all_reads conjunction_marks IsGivenConjunction n (read_conjunction_by r) conjunction_by_reads others (given_each conjunction_leaves others parts.1) (omega (arith, size, less)) rest))
+      ∙ ap (λ (o : Option (List Conjunction × List Mark)). go_on o (λ xs later. Some (roll-Predicate (record { first = c; others = xs }), later))) (all_reads conjunction_marks IsGivenConjunction n (marked_conjunction_by r) conjunction_by_reads others (given_each conjunction_leaves others parts.1) (omega (arith, size, less)) rest))
 
-  pub unit_by_reads : Reads unit_marks IsGivenUnit (suc n) (unit_by r)
+  pub unit_by_reads : ReadsBack unit_marks IsGivenUnit (suc n) (unit_by r)
   unit_by_reads = by_unit (λ u. IsGivenUnit u → length (unit_marks u) < suc n → (rest : List Mark) → unit_by r (unit_marks u ++ rest) ≡ Some (u, rest))
       (λ u given less rest. ap (λ (z : List Mark). unit_by r (z ++ rest)) (marks-Not u) ∙ ap (λ (o : Option (Test × List Mark)). go_on o (λ v later. Some (unit.Not v, later))) (good u (subst AreGiven (leaves-Not u) given) (omega (arith, ap length (marks-Not u), less)) rest))
       (λ p given less rest. ap (λ (z : List Mark). unit_by r (z ++ rest)) (marks-Group p) ∙ ap (λ (o : Option (Predicate × List Mark)). go_on o (λ v later. Some (unit.Bracket v, later))) (predicate_by_reads p (subst AreGiven (leaves-Group p) given) (omega (arith, ap length (marks-Group p), less)) rest))
@@ -182,17 +182,17 @@ module _ (n : ℕ) (r : Reader Test) (good : Reads unit_marks IsGivenUnit n r) w
 
 -- ---- every level
 
-pub unit_reads : (n : ℕ) → Reads unit_marks IsGivenUnit n (read_unit n)
+pub unit_reads : (n : ℕ) → ReadsBack unit_marks IsGivenUnit n (marked_unit n)
 unit_reads zero u given less rest = absurd (omega (arith, less))
-unit_reads (suc n) u given less rest = unit_by_reads n (read_unit n) (unit_reads n) u given less rest
+unit_reads (suc n) u given less rest = unit_by_reads n (marked_unit n) (unit_reads n) u given less rest
 
-pub predicate_reads : (n : ℕ) → Reads predicate_marks IsGivenPredicate n (read_predicate n)
-predicate_reads n = predicate_by_reads n (read_unit n) (unit_reads n)
+pub predicate_reads : (n : ℕ) → ReadsBack predicate_marks IsGivenPredicate n (marked_predicate n)
+predicate_reads n = predicate_by_reads n (marked_unit n) (unit_reads n)
 
 -- ---- the tree is determined
 
 pub one_predicate : (a b : Predicate) → IsGivenPredicate a → IsGivenPredicate b → predicate_marks a ≡ predicate_marks b → a ≡ b
-one_predicate = one_tree predicate_marks IsGivenPredicate read_predicate predicate_reads
+one_predicate = one_tree predicate_marks IsGivenPredicate marked_predicate predicate_reads
 
 pub one_unit : (a b : Test) → IsGivenUnit a → IsGivenUnit b → unit_marks a ≡ unit_marks b → a ≡ b
-one_unit = one_tree unit_marks IsGivenUnit read_unit unit_reads
+one_unit = one_tree unit_marks IsGivenUnit marked_unit unit_reads

@@ -32,10 +32,10 @@ use Rattle.tt_sql.specs.marks.Queries.{item_marks, selection_marks, moment_marks
 use Rattle.tt_sql.specs.trees.Lists.{Each, IsListed, WhenThere}
 use Rattle.tt_sql.specs.determined.Expressions.{IsGivenExpr, IsGivenPredicate}
 use Rattle.tt_sql.specs.determined.Queries.{IsAlone, IsAloneTable, IsGivenItem, IsGivenSelection, IsGivenMoment, IsGivenClause, IsGivenKey, IsGivenQuery}
-use Rattle.tt_sql.specs.machine.ExpressionTrees.{Reader, go_on, first_of, read_all}
+use Rattle.tt_sql.specs.machine.ExpressionTrees.{Reader, go_on, first_of, marked_all}
 use Rattle.tt_sql.proofs.machine.ExpressionTrees.{some_is_none, all_reads, expr_reads, one_tree}
 use Rattle.tt_sql.proofs.machine.PredicateTrees.{by_unit, by_conjunction, by_predicate, predicate_reads}
-use Rattle.tt_sql.specs.machine.QueryTrees.{read_name, read_number, read_column, read_table, read_listed, present, read_maybe, read_maybe_listed, read_sum, read_test, expr_item, read_aggregate, read_item, all_star, read_selection, offset_of, read_moment, clause_at, read_clause, read_key, made, behind_order, behind_group, behind_filter, behind_clause, behind_selection, read_query}
+use Rattle.tt_sql.specs.machine.QueryTrees.{marked_name, marked_number, marked_column, marked_table, marked_listed, present, marked_maybe, marked_maybe_listed, marked_sum, marked_test, expr_item, marked_aggregate, marked_item, all_star, marked_selection, offset_of, marked_moment, clause_at, marked_clause, marked_key, made, behind_order, behind_group, behind_filter, behind_clause, behind_selection, marked_query}
 
 -- marks of trees are read, whatever follows them
 abbrev pub Always : {A : Type 0} → (A → List Mark) → (A → Type 0) → Reader A → Type 0
@@ -47,15 +47,15 @@ in_front {A} r next m k rest x e = ap (λ (z : List Mark). go_on (r z) next) (ap
 
 -- ---- lists
 
-pub always_all : {A : Type 0} (marks : A → List Mark) (ok : A → Type 0) (r : Reader A) → Always marks ok r → (xs : List A) → Each ok xs → (rest : List Mark) → read_all r (repeated (map marks xs) ++ rest) ≡ Some (xs, rest)
+pub always_all : {A : Type 0} (marks : A → List Mark) (ok : A → Type 0) (r : Reader A) → Always marks ok r → (xs : List A) → Each ok xs → (rest : List Mark) → marked_all r (repeated (map marks xs) ++ rest) ≡ Some (xs, rest)
 always_all marks ok r good xs each rest = all_reads marks ok (suc (length (repeated (map marks xs)))) r (λ x o less later. good x o later) xs each (omega arith) rest
 
-listed_on : {A : Type 0} (marks : A → List Mark) (ok : A → Type 0) (r : Reader A) → Always marks ok r → (x : A) (xs : List A) → ok x → Each ok xs → (rest : List Mark) → read_listed r ((marks x ++ repeated (map marks xs)) ++ rest) ≡ Some (x ∷ xs, rest)
+listed_on : {A : Type 0} (marks : A → List Mark) (ok : A → Type 0) (r : Reader A) → Always marks ok r → (x : A) (xs : List A) → ok x → Each ok xs → (rest : List Mark) → marked_listed r ((marks x ++ repeated (map marks xs)) ++ rest) ≡ Some (x ∷ xs, rest)
 listed_on {A} marks ok r good x xs o each rest =
-    in_front r (λ y later. go_on (read_all r later) (λ ys end. Some (y ∷ ys, end))) (marks x) (repeated (map marks xs)) rest x (good x o (repeated (map marks xs) ++ rest))
+    in_front r (λ y later. go_on (marked_all r later) (λ ys end. Some (y ∷ ys, end))) (marks x) (repeated (map marks xs)) rest x (good x o (repeated (map marks xs) ++ rest))
     ∙ ap (λ (z : Option (List A × List Mark)). go_on z (λ ys end. Some (x ∷ ys, end))) (always_all marks ok r good xs each rest)
 
-pub listed_reads : {A : Type 0} (marks : A → List Mark) (ok : A → Type 0) (r : Reader A) → Always marks ok r → (xs : List A) → IsListed ok xs → (rest : List Mark) → read_listed r (listed_marks (map marks xs) ++ rest) ≡ Some (xs, rest)
+pub listed_reads : {A : Type 0} (marks : A → List Mark) (ok : A → Type 0) (r : Reader A) → Always marks ok r → (xs : List A) → IsListed ok xs → (rest : List Mark) → marked_listed r (listed_marks (map marks xs) ++ rest) ≡ Some (xs, rest)
 listed_reads marks ok r good [] g rest = absurd g
 listed_reads marks ok r good (x ∷ xs) g rest = listed_on marks ok r good x xs g.0 g.1 rest
 
@@ -78,7 +78,7 @@ starts_on (At place ∷ m) z s = tt
 starts_on (Said text place ∷ m) z s = tt
 starts_on (Meant n place ∷ m) z s = tt
 
-there_maybe : {A : Type 0} (r : Reader A) (m z : List Mark) → Starts m → read_maybe r (m ++ z) ≡ go_on (r (m ++ z)) (present (λ x. Some x))
+there_maybe : {A : Type 0} (r : Reader A) (m z : List Mark) → Starts m → marked_maybe r (m ++ z) ≡ go_on (r (m ++ z)) (present (λ x. Some x))
 there_maybe r [] z s = absurd s
 there_maybe r (Way zero ∷ m) z s = absurd s
 there_maybe r (Way (suc n) ∷ m) z s = refl
@@ -86,7 +86,7 @@ there_maybe r (At place ∷ m) z s = refl
 there_maybe r (Said text place ∷ m) z s = refl
 there_maybe r (Meant n place ∷ m) z s = refl
 
-there_listed : {A : Type 0} (r : Reader A) (m z : List Mark) → Starts m → read_maybe_listed r (m ++ z) ≡ go_on (read_listed r (m ++ z)) (present (λ xs. xs))
+there_listed : {A : Type 0} (r : Reader A) (m z : List Mark) → Starts m → marked_maybe_listed r (m ++ z) ≡ go_on (marked_listed r (m ++ z)) (present (λ xs. xs))
 there_listed r [] z s = absurd s
 there_listed r (Way zero ∷ m) z s = absurd s
 there_listed r (Way (suc n) ∷ m) z s = refl
@@ -94,51 +94,51 @@ there_listed r (At place ∷ m) z s = refl
 there_listed r (Said text place ∷ m) z s = refl
 there_listed r (Meant n place ∷ m) z s = refl
 
-pub maybe_reads : {A : Type 0} (marks : A → List Mark) (ok : A → Type 0) (r : Reader A) → Always marks ok r → ((x : A) → ok x → Starts (marks x)) → (o : Option A) → WhenThere ok o → (rest : List Mark) → read_maybe r (maybe_marks marks o ++ rest) ≡ Some (o, rest)
+pub maybe_reads : {A : Type 0} (marks : A → List Mark) (ok : A → Type 0) (r : Reader A) → Always marks ok r → ((x : A) → ok x → Starts (marks x)) → (o : Option A) → WhenThere ok o → (rest : List Mark) → marked_maybe r (maybe_marks marks o ++ rest) ≡ Some (o, rest)
 maybe_reads marks ok r good starts None g rest = refl
 maybe_reads {A} marks ok r good starts (Some x) g rest =
-    ap (read_maybe r) (append_assoc (marks x) (Way 1 ∷ []) rest)
+    ap (marked_maybe r) (append_assoc (marks x) (Way 1 ∷ []) rest)
     ∙ there_maybe r (marks x) (Way 1 ∷ rest) (starts x g)
     ∙ ap (λ (o : Option (A × List Mark)). go_on o (present (λ y. Some y))) (good x g (Way 1 ∷ rest))
 
-pub maybe_listed_reads : {A : Type 0} (marks : A → List Mark) (ok : A → Type 0) (r : Reader A) → Always marks ok r → ((x : A) → Starts (marks x)) → (xs : List A) → Each ok xs → (rest : List Mark) → read_maybe_listed r (maybe_listed (map marks xs) ++ rest) ≡ Some (xs, rest)
+pub maybe_listed_reads : {A : Type 0} (marks : A → List Mark) (ok : A → Type 0) (r : Reader A) → Always marks ok r → ((x : A) → Starts (marks x)) → (xs : List A) → Each ok xs → (rest : List Mark) → marked_maybe_listed r (maybe_listed (map marks xs) ++ rest) ≡ Some (xs, rest)
 maybe_listed_reads marks ok r good starts [] g rest = refl
 maybe_listed_reads {A} marks ok r good starts (x ∷ xs) g rest =
     let m = marks x ++ repeated (map marks xs) in
-    ap (read_maybe_listed r) (append_assoc m (Way 1 ∷ []) rest)
+    ap (marked_maybe_listed r) (append_assoc m (Way 1 ∷ []) rest)
     ∙ there_listed r m (Way 1 ∷ rest) (starts_on (marks x) (repeated (map marks xs)) (starts x))
     ∙ ap (λ (o : Option (List A × List Mark)). go_on o (present (λ ys. ys))) (listed_on marks ok r good x xs g.0 g.1 (Way 1 ∷ rest))
 
 -- ---- small parts
 
-pub name_reads : Always name_marks (λ n. ⊤) read_name
+pub name_reads : Always name_marks (λ n. ⊤) marked_name
 name_reads n g rest = refl
 
-pub number_reads : Always number_marks (λ n. ⊤) read_number
+pub number_reads : Always number_marks (λ n. ⊤) marked_number
 number_reads n g rest = refl
 
-column_alone : (table : Option Name) (name : Name) → table ≡ None → (rest : List Mark) → read_column (qualified table name ++ rest) ≡ Some (record { table = table; name = name }, rest)
+column_alone : (table : Option Name) (name : Name) → table ≡ None → (rest : List Mark) → marked_column (qualified table name ++ rest) ≡ Some (record { table = table; name = name }, rest)
 column_alone None name e rest = refl
 column_alone (Some front) name e rest = absurd (some_is_none front e)
 
-pub column_reads : Always column_marks IsAlone read_column
+pub column_reads : Always column_marks IsAlone marked_column
 column_reads c g rest = column_alone c.table c.name g rest
 
-table_alone : (schema : Option Name) (name : Name) → schema ≡ None → (rest : List Mark) → read_table (qualified schema name ++ rest) ≡ Some (record { schema = schema; name = name }, rest)
+table_alone : (schema : Option Name) (name : Name) → schema ≡ None → (rest : List Mark) → marked_table (qualified schema name ++ rest) ≡ Some (record { schema = schema; name = name }, rest)
 table_alone None name e rest = refl
 table_alone (Some front) name e rest = absurd (some_is_none front e)
 
-pub table_reads : Always table_marks IsAloneTable read_table
+pub table_reads : Always table_marks IsAloneTable marked_table
 table_reads t g rest = table_alone t.schema t.name g rest
 
 qualified_starts : (front : Option Name) (name : Name) → Starts (qualified front name)
 qualified_starts None name = tt
 qualified_starts (Some front) name = tt
 
-pub sum_reads : Always expr_marks IsGivenExpr read_sum
+pub sum_reads : Always expr_marks IsGivenExpr marked_sum
 sum_reads e g rest = expr_reads (suc (length (expr_marks e ++ rest))) e g (omega (arith, length-append (expr_marks e) rest)) rest
 
-pub test_reads : Always predicate_marks IsGivenPredicate read_test
+pub test_reads : Always predicate_marks IsGivenPredicate marked_test
 test_reads p g rest = predicate_reads (suc (length (predicate_marks p ++ rest))) p g (omega (arith, length-append (predicate_marks p) rest)) rest
 
 -- ---- a predicate does not begin with 0
@@ -171,26 +171,26 @@ predicate_starts = by_predicate (λ p. Starts (predicate_marks p)) (λ c others.
 
 -- ---- items
 
-count_alone : (place : ℕ) (table : Option Name) (name : Name) → table ≡ None → (rest : List Mark) → read_item ((At place ∷ (qualified table name ++ Way 5 ∷ [])) ++ rest) ≡ Some (item.Count place (record { table = table; name = name }), rest)
+count_alone : (place : ℕ) (table : Option Name) (name : Name) → table ≡ None → (rest : List Mark) → marked_item ((At place ∷ (qualified table name ++ Way 5 ∷ [])) ++ rest) ≡ Some (item.Count place (record { table = table; name = name }), rest)
 count_alone place None name e rest = refl
 count_alone place (Some front) name e rest = absurd (some_is_none front e)
 
-sum_alone : (place : ℕ) (table : Option Name) (name : Name) → table ≡ None → (rest : List Mark) → read_item ((At place ∷ (qualified table name ++ Way 6 ∷ [])) ++ rest) ≡ Some (item.Sum place (record { table = table; name = name }), rest)
+sum_alone : (place : ℕ) (table : Option Name) (name : Name) → table ≡ None → (rest : List Mark) → marked_item ((At place ∷ (qualified table name ++ Way 6 ∷ [])) ++ rest) ≡ Some (item.Sum place (record { table = table; name = name }), rest)
 sum_alone place None name e rest = refl
 sum_alone place (Some front) name e rest = absurd (some_is_none front e)
 
-min_alone : (place : ℕ) (table : Option Name) (name : Name) → table ≡ None → (rest : List Mark) → read_item ((At place ∷ (qualified table name ++ Way 7 ∷ [])) ++ rest) ≡ Some (item.Min place (record { table = table; name = name }), rest)
+min_alone : (place : ℕ) (table : Option Name) (name : Name) → table ≡ None → (rest : List Mark) → marked_item ((At place ∷ (qualified table name ++ Way 7 ∷ [])) ++ rest) ≡ Some (item.Min place (record { table = table; name = name }), rest)
 min_alone place None name e rest = refl
 min_alone place (Some front) name e rest = absurd (some_is_none front e)
 
-max_alone : (place : ℕ) (table : Option Name) (name : Name) → table ≡ None → (rest : List Mark) → read_item ((At place ∷ (qualified table name ++ Way 8 ∷ [])) ++ rest) ≡ Some (item.Max place (record { table = table; name = name }), rest)
+max_alone : (place : ℕ) (table : Option Name) (name : Name) → table ≡ None → (rest : List Mark) → marked_item ((At place ∷ (qualified table name ++ Way 8 ∷ [])) ++ rest) ≡ Some (item.Max place (record { table = table; name = name }), rest)
 max_alone place None name e rest = refl
 max_alone place (Some front) name e rest = absurd (some_is_none front e)
 
-pub item_reads : Always item_marks IsGivenItem read_item
+pub item_reads : Always item_marks IsGivenItem marked_item
 item_reads (item.Expr e) g rest =
-    ap read_item (append_assoc (expr_marks e) (Way 0 ∷ []) rest)
-    ∙ ap (λ (o : Option (Expr × List Mark)). first_of (go_on o expr_item) (read_aggregate (expr_marks e ++ (Way 0 ∷ rest)))) (sum_reads e g (Way 0 ∷ rest))
+    ap marked_item (append_assoc (expr_marks e) (Way 0 ∷ []) rest)
+    ∙ ap (λ (o : Option (Expr × List Mark)). first_of (go_on o expr_item) (marked_aggregate (expr_marks e ++ (Way 0 ∷ rest)))) (sum_reads e g (Way 0 ∷ rest))
 item_reads (item.CountAll place) g rest = refl
 item_reads (item.Count place c) g rest = count_alone place c.table c.name g rest
 item_reads (item.Sum place c) g rest = sum_alone place c.table c.name g rest
@@ -198,33 +198,33 @@ item_reads (item.Min place c) g rest = min_alone place c.table c.name g rest
 item_reads (item.Max place c) g rest = max_alone place c.table c.name g rest
 
 -- in front of a table's name
-selection_reads : (s : Selection) → IsGivenSelection s → (text : List ℕ) (place : ℕ) (rest : List Mark) → read_selection (selection_marks s ++ (Said text place ∷ rest)) ≡ Some (s, Said text place ∷ rest)
+selection_reads : (s : Selection) → IsGivenSelection s → (text : List ℕ) (place : ℕ) (rest : List Mark) → marked_selection (selection_marks s ++ (Said text place ∷ rest)) ≡ Some (s, Said text place ∷ rest)
 selection_reads (selection.All here) g text place rest = refl
 selection_reads (selection.Listed items) g text place rest =
     let m = listed_marks (map item_marks items) in
     let z = Way 1 ∷ (Said text place ∷ rest) in
-    ap read_selection (append_assoc m (Way 1 ∷ []) (Said text place ∷ rest))
-    ∙ ap (λ (o : Option (List Item × List Mark)). first_of (go_on o (present selection.Listed)) (all_star (m ++ z))) (listed_reads item_marks IsGivenItem read_item item_reads items g z)
+    ap marked_selection (append_assoc m (Way 1 ∷ []) (Said text place ∷ rest))
+    ∙ ap (λ (o : Option (List Item × List Mark)). first_of (go_on o (present selection.Listed)) (all_star (m ++ z))) (listed_reads item_marks IsGivenItem marked_item item_reads items g z)
 
 -- ---- moments
 
-factors_read : (negative : Bool) (factors : List Number) → IsListed (λ n. ⊤) factors → (rest : List Mark) → go_on (read_listed read_number ((listed_marks (map number_marks factors) ++ Way 1 ∷ []) ++ rest)) (offset_of negative) ≡ Some (moment.Offset (record { negative = negative; factors = factors }), rest)
-factors_read negative factors g rest = in_front (read_listed read_number) (offset_of negative) (listed_marks (map number_marks factors)) (Way 1 ∷ []) rest factors (listed_reads number_marks (λ n. ⊤) read_number number_reads factors g (Way 1 ∷ rest))
+factors_read : (negative : Bool) (factors : List Number) → IsListed (λ n. ⊤) factors → (rest : List Mark) → go_on (marked_listed marked_number ((listed_marks (map number_marks factors) ++ Way 1 ∷ []) ++ rest)) (offset_of negative) ≡ Some (moment.Offset (record { negative = negative; factors = factors }), rest)
+factors_read negative factors g rest = in_front (marked_listed marked_number) (offset_of negative) (listed_marks (map number_marks factors)) (Way 1 ∷ []) rest factors (listed_reads number_marks (λ n. ⊤) marked_number number_reads factors g (Way 1 ∷ rest))
 
-offset_reads : (negative : Bool) (factors : List Number) → IsListed (λ n. ⊤) factors → (rest : List Mark) → read_moment (((flag_marks negative ++ listed_marks (map number_marks factors)) ++ Way 1 ∷ []) ++ rest) ≡ Some (moment.Offset (record { negative = negative; factors = factors }), rest)
+offset_reads : (negative : Bool) (factors : List Number) → IsListed (λ n. ⊤) factors → (rest : List Mark) → marked_moment (((flag_marks negative ++ listed_marks (map number_marks factors)) ++ Way 1 ∷ []) ++ rest) ≡ Some (moment.Offset (record { negative = negative; factors = factors }), rest)
 offset_reads false factors g rest = factors_read false factors g rest
 offset_reads true factors g rest = factors_read true factors g rest
 
-moment_reads : Always moment_marks IsGivenMoment read_moment
+moment_reads : Always moment_marks IsGivenMoment marked_moment
 moment_reads (moment.Timestamp n) g rest = refl
 moment_reads (moment.Offset o) g rest = offset_reads o.negative o.factors g rest
 moment_reads (moment.Statement q) g rest = refl
 
-side_reads : (s : Side) (m : Moment) → IsGivenMoment m → (rest : List Mark) → read_clause ((side_marks s ++ moment_marks m) ++ rest) ≡ Some (record { side = s; moment = m }, rest)
+side_reads : (s : Side) (m : Moment) → IsGivenMoment m → (rest : List Mark) → marked_clause ((side_marks s ++ moment_marks m) ++ rest) ≡ Some (record { side = s; moment = m }, rest)
 side_reads side.At m g rest = ap (λ (o : Option (Moment × List Mark)). go_on o (clause_at side.At)) (moment_reads m g rest)
 side_reads side.Before m g rest = ap (λ (o : Option (Moment × List Mark)). go_on o (clause_at side.Before)) (moment_reads m g rest)
 
-pub clause_reads : Always clause_marks IsGivenClause read_clause
+pub clause_reads : Always clause_marks IsGivenClause marked_clause
 clause_reads c g rest = side_reads c.side c.moment g rest
 
 side_starts : (s : Side) (m : List Mark) → Starts (side_marks s ++ m)
@@ -236,20 +236,20 @@ clause_starts c = side_starts c.side (moment_marks c.moment)
 
 -- ---- keys
 
-key_column_reads : (table : Option Name) (name : Name) → table ≡ None → (descending : Bool) (rest : List Mark) → read_key (((qualified table name ++ Way 0 ∷ []) ++ flag_marks descending) ++ rest) ≡ Some (record { by = key.Column (record { table = table; name = name }); descending = descending }, rest)
+key_column_reads : (table : Option Name) (name : Name) → table ≡ None → (descending : Bool) (rest : List Mark) → marked_key (((qualified table name ++ Way 0 ∷ []) ++ flag_marks descending) ++ rest) ≡ Some (record { by = key.Column (record { table = table; name = name }); descending = descending }, rest)
 key_column_reads None name e false rest = refl
 key_column_reads None name e true rest = refl
 key_column_reads (Some front) name e descending rest = absurd (some_is_none front e)
 
-key_position_reads : (n : Number) (descending : Bool) (rest : List Mark) → read_key (((number_marks n ++ Way 1 ∷ []) ++ flag_marks descending) ++ rest) ≡ Some (record { by = key.Position n; descending = descending }, rest)
+key_position_reads : (n : Number) (descending : Bool) (rest : List Mark) → marked_key (((number_marks n ++ Way 1 ∷ []) ++ flag_marks descending) ++ rest) ≡ Some (record { by = key.Position n; descending = descending }, rest)
 key_position_reads n false rest = refl
 key_position_reads n true rest = refl
 
-by_reads : (by : KeyColumn) (descending : Bool) → IsGivenKey (record { by = by; descending = descending }) → (rest : List Mark) → read_key ((key_column_marks by ++ flag_marks descending) ++ rest) ≡ Some (record { by = by; descending = descending }, rest)
+by_reads : (by : KeyColumn) (descending : Bool) → IsGivenKey (record { by = by; descending = descending }) → (rest : List Mark) → marked_key ((key_column_marks by ++ flag_marks descending) ++ rest) ≡ Some (record { by = by; descending = descending }, rest)
 by_reads (key.Column c) descending g rest = key_column_reads c.table c.name g descending rest
 by_reads (key.Position n) descending g rest = key_position_reads n descending rest
 
-pub key_reads : Always key_marks IsGivenKey read_key
+pub key_reads : Always key_marks IsGivenKey marked_key
 key_reads k g rest = by_reads k.by k.descending g rest
 
 by_starts : (by : KeyColumn) (m : List Mark) → Starts (key_column_marks by ++ m)
@@ -263,7 +263,7 @@ always_there None = tt
 always_there (Some x) = tt
 
 parts_read : (q : Query) (schema : Option Name) (name : Name) (joins : List Join) → schema ≡ None → joins ≡ [] → IsGivenSelection q.selection → WhenThere IsGivenClause q.first.clause → WhenThere IsGivenPredicate q.filter → Each IsAlone q.group → Each IsGivenKey q.order → (rest : List Mark)
-    → read_query (query_marks (record { place = q.place; selection = q.selection; first = record { table = record { schema = schema; name = name }; clause = q.first.clause }; joins = joins; filter = q.filter; group = q.group; order = q.order; limit = q.limit }) ++ rest)
+    → marked_query (query_marks (record { place = q.place; selection = q.selection; first = record { table = record { schema = schema; name = name }; clause = q.first.clause }; joins = joins; filter = q.filter; group = q.group; order = q.order; limit = q.limit }) ++ rest)
     ≡ Some (record { place = q.place; selection = q.selection; first = record { table = record { schema = schema; name = name }; clause = q.first.clause }; joins = joins; filter = q.filter; group = q.group; order = q.order; limit = q.limit }, rest)
 parts_read q (Some front) name joins e f s c p g o rest = absurd (some_is_none front e)
 parts_read q None name (j ∷ joins) e f s c p g o rest = absurd (true≢false (sym (ap no_join f)))
@@ -279,14 +279,14 @@ parts_read q None name [] e f s c p g o rest =
     let filter = maybe_marks predicate_marks q.filter in
     let clause = maybe_marks clause_marks q.first.clause in
     let tail = clause ++ (filter ++ (group ++ (order ++ limit))) in
-    in_front read_selection (behind_selection q.place) (selection_marks q.selection) (Said name.text name.place ∷ tail) rest q.selection (selection_reads q.selection s name.text name.place (tail ++ rest))
-    ∙ in_front (read_maybe read_clause) (behind_clause q.place q.selection table) clause (filter ++ (group ++ (order ++ limit))) rest q.first.clause (maybe_reads clause_marks IsGivenClause read_clause clause_reads (λ x h. clause_starts x) q.first.clause c ((filter ++ (group ++ (order ++ limit))) ++ rest))
-    ∙ in_front (read_maybe read_test) (behind_filter q.place q.selection table q.first.clause) filter (group ++ (order ++ limit)) rest q.filter (maybe_reads predicate_marks IsGivenPredicate read_test test_reads (λ x h. predicate_starts x) q.filter p ((group ++ (order ++ limit)) ++ rest))
-    ∙ in_front (read_maybe_listed read_column) (behind_group q.place q.selection table q.first.clause q.filter) group (order ++ limit) rest q.group (maybe_listed_reads column_marks IsAlone read_column column_reads (λ x. qualified_starts x.table x.name) q.group g ((order ++ limit) ++ rest))
-    ∙ in_front (read_maybe_listed read_key) (behind_order q.place q.selection table q.first.clause q.filter q.group) order limit rest q.order (maybe_listed_reads key_marks IsGivenKey read_key key_reads (λ x. by_starts x.by (flag_marks x.descending)) q.order o (limit ++ rest))
-    ∙ ap (λ (z : Option (Option Number × List Mark)). go_on z (made q.place q.selection table q.first.clause q.filter q.group q.order)) (maybe_reads number_marks (λ n. ⊤) read_number number_reads (λ n h. tt) q.limit (always_there q.limit) rest)
+    in_front marked_selection (behind_selection q.place) (selection_marks q.selection) (Said name.text name.place ∷ tail) rest q.selection (selection_reads q.selection s name.text name.place (tail ++ rest))
+    ∙ in_front (marked_maybe marked_clause) (behind_clause q.place q.selection table) clause (filter ++ (group ++ (order ++ limit))) rest q.first.clause (maybe_reads clause_marks IsGivenClause marked_clause clause_reads (λ x h. clause_starts x) q.first.clause c ((filter ++ (group ++ (order ++ limit))) ++ rest))
+    ∙ in_front (marked_maybe marked_test) (behind_filter q.place q.selection table q.first.clause) filter (group ++ (order ++ limit)) rest q.filter (maybe_reads predicate_marks IsGivenPredicate marked_test test_reads (λ x h. predicate_starts x) q.filter p ((group ++ (order ++ limit)) ++ rest))
+    ∙ in_front (marked_maybe_listed marked_column) (behind_group q.place q.selection table q.first.clause q.filter) group (order ++ limit) rest q.group (maybe_listed_reads column_marks IsAlone marked_column column_reads (λ x. qualified_starts x.table x.name) q.group g ((order ++ limit) ++ rest))
+    ∙ in_front (marked_maybe_listed marked_key) (behind_order q.place q.selection table q.first.clause q.filter q.group) order limit rest q.order (maybe_listed_reads key_marks IsGivenKey marked_key key_reads (λ x. by_starts x.by (flag_marks x.descending)) q.order o (limit ++ rest))
+    ∙ ap (λ (z : Option (Option Number × List Mark)). go_on z (made q.place q.selection table q.first.clause q.filter q.group q.order)) (maybe_reads number_marks (λ n. ⊤) marked_number number_reads (λ n h. tt) q.limit (always_there q.limit) rest)
 
-pub query_reads : Always query_marks IsGivenQuery read_query
+pub query_reads : Always query_marks IsGivenQuery marked_query
 query_reads q g rest = parts_read q q.first.table.schema q.first.table.name q.joins g.table g.joins g.selection g.clause g.filter g.group g.order rest
 
 -- ---- the tree is determined
@@ -295,4 +295,4 @@ pub one_always : {A : Type 0} (marks : A → List Mark) (ok : A → Type 0) (r :
 one_always marks ok r good = one_tree marks ok (λ n. r) (λ n x o less rest. good x o rest)
 
 pub one_query : (a b : Query) → IsGivenQuery a → IsGivenQuery b → query_marks a ≡ query_marks b → a ≡ b
-one_query = one_always query_marks IsGivenQuery read_query query_reads
+one_query = one_always query_marks IsGivenQuery marked_query query_reads

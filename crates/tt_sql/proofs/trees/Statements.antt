@@ -20,7 +20,7 @@ use Rattle.tt_sql.specs.marks.Expressions.{listed_marks, maybe_marks, flag_marks
 use Rattle.tt_sql.specs.marks.Queries.{query_marks}
 use Rattle.tt_sql.specs.marks.Changes.{names_marks, tuple_marks, insert_source_marks, insert_marks, set_marks, update_marks, delete_marks, copy_marks}
 use Rattle.tt_sql.specs.marks.Tables.{create_marks, clone_marks, alter_marks}
-use Rattle.tt_sql.specs.marks.Statements.{unit_number, wait_marks, statement_marks}
+use Rattle.tt_sql.specs.marks.Statements.{unit_number, wait_marks, statement_marks, time_unit_marks}
 use Rattle.tt_sql.specs.trees.Lists.{IsListed, WhenThere}
 use Rattle.tt_sql.specs.trees.Expressions.{IsWrittenName, IsWrittenTable, IsWrittenQuoted, IsWrittenLiteral, IsWrittenExpr, IsWrittenPredicate}
 use Rattle.tt_sql.specs.trees.Queries.{IsShortNumber, IsWrittenQuery}
@@ -116,17 +116,14 @@ unit_tree (suc (suc (suc (suc (suc k))))) less = absurd (omega (arith, less))
 abbrev IsWrittenWait : Wait → Type 0
 IsWrittenWait w = IsShortNumber w.amount
 
-abbrev unit_marks : TimeUnit → List Mark
-unit_marks u = Way (unit_number u) ∷ []
-
-unit_at : (k : ℕ) → k < 5 → Tree unit_marks IsAny (Way k ∷ [])
+unit_at : (k : ℕ) → k < 5 → Tree time_unit_marks IsAny (Way k ∷ [])
 unit_at k less = let u = unit_tree k less in record { tree = u.0; given = tt; same = ap (λ (n : ℕ). Way n ∷ []) u.1 }
 
-unit_trees : HasTrees (one COMMA ▸ one UNIT_TEXT ▸ Note as_unit ∣ way 3) unit_marks IsAny
+unit_trees : HasTrees (one COMMA ▸ one UNIT_TEXT ▸ Note as_unit ∣ way 3) time_unit_marks IsAny
 unit_trees done m after (first (pair (word e is) (pair (word {t = t} f was) noted))) = unit_at (place_in unit_words (upper t.text)) (has_unit t was (only UNIT_TEXT t.kind f))
 unit_trees done m after (second noted) = record { tree = time.Seconds; given = tt; same = refl }
 
-wait_from : (i j : List Mark) → Tree number_marks IsShortNumber i → Tree unit_marks IsAny j → Tree wait_marks IsWrittenWait (i ++ j)
+wait_from : (i j : List Mark) → Tree number_marks IsShortNumber i → Tree time_unit_marks IsAny j → Tree wait_marks IsWrittenWait (i ++ j)
 wait_from i j a b = record { tree = record { amount = a.tree; «unit» = b.tree }; given = a.given; same = joined_marks a.same b.same }
 
 wait_trees : HasTrees wait wait_marks IsWrittenWait

@@ -27,14 +27,14 @@ first_of (Some x) other = Some x
 -- ---- lists
 
 -- what is repeated, at most so often
-abbrev pub read_many : {A : Type 0} → Reader A → ℕ → Reader (List A)
-read_many r zero m = None
-read_many r (suc k) (Way zero ∷ m) = Some ([], m)
-read_many r (suc k) (Way (suc zero) ∷ m) = go_on (r m) (λ x later. go_on (read_many r k later) (λ xs end. Some (x ∷ xs, end)))
-read_many r (suc k) m = None
+abbrev pub marked_many : {A : Type 0} → Reader A → ℕ → Reader (List A)
+marked_many r zero m = None
+marked_many r (suc k) (Way zero ∷ m) = Some ([], m)
+marked_many r (suc k) (Way (suc zero) ∷ m) = go_on (r m) (λ x later. go_on (marked_many r k later) (λ xs end. Some (x ∷ xs, end)))
+marked_many r (suc k) m = None
 
-abbrev pub read_all : {A : Type 0} → Reader A → Reader (List A)
-read_all r m = read_many r (length m) m
+abbrev pub marked_all : {A : Type 0} → Reader A → Reader (List A)
+marked_all r m = marked_many r (length m) m
 
 -- ---- literals
 
@@ -42,38 +42,38 @@ abbrev pub dated : ℕ → List Mark → Option ℤ → Option (Literal × List 
 dated place m None = None
 dated place m (Some day) = Some (record { value = Date day; place = place }, m)
 
-abbrev pub read_literal : Reader Literal
-read_literal (At place ∷ Way zero ∷ m) = Some (record { value = Null; place = place }, m)
-read_literal (Meant n place ∷ Way (suc zero) ∷ m) = Some (record { value = Int n; place = place }, m)
-read_literal (Said text place ∷ Way (suc (suc zero)) ∷ m) = Some (record { value = Text text; place = place }, m)
-read_literal (Said text place ∷ Way (suc (suc (suc zero))) ∷ m) = dated place m (day_of text)
-read_literal m = None
+abbrev pub marked_literal : Reader Literal
+marked_literal (At place ∷ Way zero ∷ m) = Some (record { value = Null; place = place }, m)
+marked_literal (Meant n place ∷ Way (suc zero) ∷ m) = Some (record { value = Int n; place = place }, m)
+marked_literal (Said text place ∷ Way (suc (suc zero)) ∷ m) = Some (record { value = Text text; place = place }, m)
+marked_literal (Said text place ∷ Way (suc (suc (suc zero))) ∷ m) = dated place m (day_of text)
+marked_literal m = None
 
 -- ---- expressions, given a reader of the factors within brackets
 
 abbrev pub term_rest : Reader Factor → Factor → Reader Term
-term_rest r f m = go_on (read_all r m) (λ fs later. Some (roll-Term (record { first = f; others = fs }), later))
+term_rest r f m = go_on (marked_all r m) (λ fs later. Some (roll-Term (record { first = f; others = fs }), later))
 
-abbrev pub read_term : Reader Factor → Reader Term
-read_term r m = go_on (r m) (term_rest r)
+abbrev pub marked_term : Reader Factor → Reader Term
+marked_term r m = go_on (r m) (term_rest r)
 
 abbrev pub signed : Sign → Term → Reader Addend
 signed sign t m = Some (roll-Addend (record { sign = sign; term = t }), m)
 
-abbrev pub read_addend : Reader Factor → Reader Addend
-read_addend r (Way zero ∷ m) = go_on (read_term r m) (signed Plus)
-read_addend r (Way (suc zero) ∷ m) = go_on (read_term r m) (signed Minus)
-read_addend r m = None
+abbrev pub marked_addend : Reader Factor → Reader Addend
+marked_addend r (Way zero ∷ m) = go_on (marked_term r m) (signed Plus)
+marked_addend r (Way (suc zero) ∷ m) = go_on (marked_term r m) (signed Minus)
+marked_addend r m = None
 
 abbrev pub expr_rest_of : Reader Factor → Term → Reader Expr
-expr_rest_of r t m = go_on (read_all (read_addend r) m) (λ xs later. Some (roll-Expr (record { first = t; others = xs }), later))
+expr_rest_of r t m = go_on (marked_all (marked_addend r) m) (λ xs later. Some (roll-Expr (record { first = t; others = xs }), later))
 
 -- behind the first factor
 abbrev pub expr_rest : Reader Factor → Factor → Reader Expr
 expr_rest r f m = go_on (term_rest r f m) (expr_rest_of r)
 
-abbrev pub read_expr_by : Reader Factor → Reader Expr
-read_expr_by r m = go_on (r m) (expr_rest r)
+abbrev pub marked_expr_by : Reader Factor → Reader Expr
+marked_expr_by r m = go_on (r m) (expr_rest r)
 
 abbrev pub literal_factor : Literal → Reader Factor
 literal_factor l (Way zero ∷ m) = Some (factor.Literal l, m)
@@ -89,19 +89,19 @@ behind r place f (Way (suc (suc (suc zero))) ∷ m) = Some (factor.Negated place
 behind r place f m = go_on (expr_rest r f m) (shut place)
 
 abbrev pub at_factor : Reader Factor → ℕ → Reader Factor
-at_factor r place m = first_of (go_on (r m) (behind r place)) (go_on (read_literal (At place ∷ m)) literal_factor)
+at_factor r place m = first_of (go_on (r m) (behind r place)) (go_on (marked_literal (At place ∷ m)) literal_factor)
 
 abbrev pub factor_by : Reader Factor → Reader Factor
 factor_by r (At place ∷ m) = at_factor r place m
-factor_by r (Meant n place ∷ m) = go_on (read_literal (Meant n place ∷ m)) literal_factor
+factor_by r (Meant n place ∷ m) = go_on (marked_literal (Meant n place ∷ m)) literal_factor
 factor_by r (Said text place ∷ Way (suc zero) ∷ m) = Some (factor.Column (record { table = None; name = record { text = text; place = place } }), m)
-factor_by r (Said text place ∷ m) = go_on (read_literal (Said text place ∷ m)) literal_factor
+factor_by r (Said text place ∷ m) = go_on (marked_literal (Said text place ∷ m)) literal_factor
 factor_by r m = None
 
 -- with at most so many levels
-abbrev pub read_factor : ℕ → Reader Factor
-read_factor zero m = None
-read_factor (suc n) m = factor_by (read_factor n) m
+abbrev pub marked_factor : ℕ → Reader Factor
+marked_factor zero m = None
+marked_factor (suc n) m = factor_by (marked_factor n) m
 
-abbrev pub read_expr : ℕ → Reader Expr
-read_expr n m = read_expr_by (read_factor n) m
+abbrev pub marked_expr : ℕ → Reader Expr
+marked_expr n m = marked_expr_by (marked_factor n) m

@@ -21,59 +21,59 @@ use Rattle.tt_sql.specs.declared.query.Selection.TheVariants as selection
 use Rattle.tt_sql.specs.declared.query.Side.{Side}
 use Rattle.tt_sql.specs.declared.query.Side.TheVariants as side
 use Rattle.tt_sql.specs.grammar.Grammar.{Way, At, Said, Meant}
-use Rattle.tt_sql.specs.machine.ExpressionTrees.{Reader, go_on, first_of, read_all, read_expr}
-use Rattle.tt_sql.specs.machine.PredicateTrees.{read_predicate}
+use Rattle.tt_sql.specs.machine.ExpressionTrees.{Reader, go_on, first_of, marked_all, marked_expr}
+use Rattle.tt_sql.specs.machine.PredicateTrees.{marked_predicate}
 
 -- ---- small parts
 
-abbrev pub read_name : Reader Name
-read_name (Said text place ∷ m) = Some (record { text = text; place = place }, m)
-read_name m = None
+abbrev pub marked_name : Reader Name
+marked_name (Said text place ∷ m) = Some (record { text = text; place = place }, m)
+marked_name m = None
 
-abbrev pub read_number : Reader Number
-read_number (Meant (pos n) place ∷ m) = Some (record { value = n; place = place }, m)
-read_number m = None
+abbrev pub marked_number : Reader Number
+marked_number (Meant (pos n) place ∷ m) = Some (record { value = n; place = place }, m)
+marked_number m = None
 
-abbrev pub read_quoted : Reader Quoted
-read_quoted (Said text place ∷ m) = Some (record { text = text; place = place }, m)
-read_quoted m = None
+abbrev pub marked_quoted : Reader Quoted
+marked_quoted (Said text place ∷ m) = Some (record { text = text; place = place }, m)
+marked_quoted m = None
 
-abbrev pub read_column : Reader ColumnName
-read_column (Said text place ∷ m) = Some (record { table = None; name = record { text = text; place = place } }, m)
-read_column m = None
+abbrev pub marked_column : Reader ColumnName
+marked_column (Said text place ∷ m) = Some (record { table = None; name = record { text = text; place = place } }, m)
+marked_column m = None
 
-abbrev pub read_table : Reader TableName
-read_table (Said text place ∷ m) = Some (record { schema = None; name = record { text = text; place = place } }, m)
-read_table m = None
+abbrev pub marked_table : Reader TableName
+marked_table (Said text place ∷ m) = Some (record { schema = None; name = record { text = text; place = place } }, m)
+marked_table m = None
 
-abbrev pub read_flag : Reader Bool
-read_flag (Way zero ∷ m) = Some (false, m)
-read_flag (Way (suc zero) ∷ m) = Some (true, m)
-read_flag m = None
+abbrev pub marked_flag : Reader Bool
+marked_flag (Way zero ∷ m) = Some (false, m)
+marked_flag (Way (suc zero) ∷ m) = Some (true, m)
+marked_flag m = None
 
 -- one, and then more
-abbrev pub read_listed : {A : Type 0} → Reader A → Reader (List A)
-read_listed r m = go_on (r m) (λ x later. go_on (read_all r later) (λ xs end. Some (x ∷ xs, end)))
+abbrev pub marked_listed : {A : Type 0} → Reader A → Reader (List A)
+marked_listed r m = go_on (r m) (λ x later. go_on (marked_all r later) (λ xs end. Some (x ∷ xs, end)))
 
 abbrev pub present : {A B : Type 0} → (A → B) → A → Reader B
 present f x (Way (suc zero) ∷ m) = Some (f x, m)
 present f x m = None
 
 -- what may be left out
-abbrev pub read_maybe : {A : Type 0} → Reader A → Reader (Option A)
-read_maybe r (Way zero ∷ m) = Some (None, m)
-read_maybe r m = go_on (r m) (present (λ x. Some x))
+abbrev pub marked_maybe : {A : Type 0} → Reader A → Reader (Option A)
+marked_maybe r (Way zero ∷ m) = Some (None, m)
+marked_maybe r m = go_on (r m) (present (λ x. Some x))
 
-abbrev pub read_maybe_listed : {A : Type 0} → Reader A → Reader (List A)
-read_maybe_listed r (Way zero ∷ m) = Some ([], m)
-read_maybe_listed r m = go_on (read_listed r m) (present (λ xs. xs))
+abbrev pub marked_maybe_listed : {A : Type 0} → Reader A → Reader (List A)
+marked_maybe_listed r (Way zero ∷ m) = Some ([], m)
+marked_maybe_listed r m = go_on (marked_listed r m) (present (λ xs. xs))
 
 -- an expression and a predicate have no more levels than marks
-abbrev pub read_sum : Reader Expr
-read_sum m = read_expr (suc (length m)) m
+abbrev pub marked_sum : Reader Expr
+marked_sum m = marked_expr (suc (length m)) m
 
-abbrev pub read_test : Reader Predicate
-read_test m = read_predicate (suc (length m)) m
+abbrev pub marked_test : Reader Predicate
+marked_test m = marked_predicate (suc (length m)) m
 
 -- ---- items
 
@@ -81,23 +81,23 @@ abbrev pub expr_item : Expr → Reader Item
 expr_item e (Way zero ∷ m) = Some (item.Expr e, m)
 expr_item e m = None
 
-abbrev pub read_aggregate : Reader Item
-read_aggregate (At place ∷ Way (suc (suc (suc (suc zero)))) ∷ m) = Some (item.CountAll place, m)
-read_aggregate (At place ∷ Said text here ∷ Way (suc (suc (suc (suc (suc zero))))) ∷ m) = Some (item.Count place (record { table = None; name = record { text = text; place = here } }), m)
-read_aggregate (At place ∷ Said text here ∷ Way (suc (suc (suc (suc (suc (suc zero)))))) ∷ m) = Some (item.Sum place (record { table = None; name = record { text = text; place = here } }), m)
-read_aggregate (At place ∷ Said text here ∷ Way (suc (suc (suc (suc (suc (suc (suc zero))))))) ∷ m) = Some (item.Min place (record { table = None; name = record { text = text; place = here } }), m)
-read_aggregate (At place ∷ Said text here ∷ Way (suc (suc (suc (suc (suc (suc (suc (suc zero)))))))) ∷ m) = Some (item.Max place (record { table = None; name = record { text = text; place = here } }), m)
-read_aggregate m = None
+abbrev pub marked_aggregate : Reader Item
+marked_aggregate (At place ∷ Way (suc (suc (suc (suc zero)))) ∷ m) = Some (item.CountAll place, m)
+marked_aggregate (At place ∷ Said text here ∷ Way (suc (suc (suc (suc (suc zero))))) ∷ m) = Some (item.Count place (record { table = None; name = record { text = text; place = here } }), m)
+marked_aggregate (At place ∷ Said text here ∷ Way (suc (suc (suc (suc (suc (suc zero)))))) ∷ m) = Some (item.Sum place (record { table = None; name = record { text = text; place = here } }), m)
+marked_aggregate (At place ∷ Said text here ∷ Way (suc (suc (suc (suc (suc (suc (suc zero))))))) ∷ m) = Some (item.Min place (record { table = None; name = record { text = text; place = here } }), m)
+marked_aggregate (At place ∷ Said text here ∷ Way (suc (suc (suc (suc (suc (suc (suc (suc zero)))))))) ∷ m) = Some (item.Max place (record { table = None; name = record { text = text; place = here } }), m)
+marked_aggregate m = None
 
-abbrev pub read_item : Reader Item
-read_item m = first_of (go_on (read_sum m) expr_item) (read_aggregate m)
+abbrev pub marked_item : Reader Item
+marked_item m = first_of (go_on (marked_sum m) expr_item) (marked_aggregate m)
 
 abbrev pub all_star : Reader Selection
 all_star (At place ∷ Way zero ∷ m) = Some (selection.All place, m)
 all_star m = None
 
-abbrev pub read_selection : Reader Selection
-read_selection m = first_of (go_on (read_listed read_item m) (present selection.Listed)) (all_star m)
+abbrev pub marked_selection : Reader Selection
+marked_selection m = first_of (go_on (marked_listed marked_item m) (present selection.Listed)) (all_star m)
 
 -- ---- moments
 
@@ -105,51 +105,51 @@ abbrev pub offset_of : Bool → List Number → Reader Moment
 offset_of negative factors (Way (suc zero) ∷ m) = Some (moment.Offset (record { negative = negative; factors = factors }), m)
 offset_of negative factors m = None
 
-abbrev pub read_moment : Reader Moment
-read_moment (Meant n place ∷ Way zero ∷ m) = Some (moment.Timestamp n, m)
-read_moment (Said text place ∷ Way (suc (suc zero)) ∷ m) = Some (moment.Statement (record { text = text; place = place }), m)
-read_moment m = go_on (read_flag m) (λ negative later. go_on (read_listed read_number later) (offset_of negative))
+abbrev pub marked_moment : Reader Moment
+marked_moment (Meant n place ∷ Way zero ∷ m) = Some (moment.Timestamp n, m)
+marked_moment (Said text place ∷ Way (suc (suc zero)) ∷ m) = Some (moment.Statement (record { text = text; place = place }), m)
+marked_moment m = go_on (marked_flag m) (λ negative later. go_on (marked_listed marked_number later) (offset_of negative))
 
 abbrev pub clause_at : Side → Moment → Reader Clause
 clause_at side moment m = Some (record { side = side; moment = moment }, m)
 
-abbrev pub read_clause : Reader Clause
-read_clause (Way (suc zero) ∷ m) = go_on (read_moment m) (clause_at side.At)
-read_clause (Way (suc (suc zero)) ∷ m) = go_on (read_moment m) (clause_at side.Before)
-read_clause m = None
+abbrev pub marked_clause : Reader Clause
+marked_clause (Way (suc zero) ∷ m) = go_on (marked_moment m) (clause_at side.At)
+marked_clause (Way (suc (suc zero)) ∷ m) = go_on (marked_moment m) (clause_at side.Before)
+marked_clause m = None
 
 -- ---- queries
 
 abbrev pub key_by : KeyColumn → Reader Key
-key_by by m = go_on (read_flag m) (λ descending later. Some (record { by = by; descending = descending }, later))
+key_by by m = go_on (marked_flag m) (λ descending later. Some (record { by = by; descending = descending }, later))
 
-abbrev pub read_key : Reader Key
-read_key (Said text place ∷ Way zero ∷ m) = key_by (key.Column (record { table = None; name = record { text = text; place = place } })) m
-read_key (Meant (pos n) place ∷ Way (suc zero) ∷ m) = key_by (key.Position (record { value = n; place = place })) m
-read_key m = None
+abbrev pub marked_key : Reader Key
+marked_key (Said text place ∷ Way zero ∷ m) = key_by (key.Column (record { table = None; name = record { text = text; place = place } })) m
+marked_key (Meant (pos n) place ∷ Way (suc zero) ∷ m) = key_by (key.Position (record { value = n; place = place })) m
+marked_key m = None
 
 abbrev pub made : ℕ → Selection → TableName → Option Clause → Option Predicate → List ColumnName → List Key → Option Number → Reader Query
 made place selection table clause filter group order limit m =
     Some (record { place = place; selection = selection; first = record { table = table; clause = clause }; joins = []; filter = filter; group = group; order = order; limit = limit }, m)
 
 abbrev pub behind_order : ℕ → Selection → TableName → Option Clause → Option Predicate → List ColumnName → List Key → Reader Query
-behind_order place selection table clause filter group order m = go_on (read_maybe read_number m) (made place selection table clause filter group order)
+behind_order place selection table clause filter group order m = go_on (marked_maybe marked_number m) (made place selection table clause filter group order)
 
 abbrev pub behind_group : ℕ → Selection → TableName → Option Clause → Option Predicate → List ColumnName → Reader Query
-behind_group place selection table clause filter group m = go_on (read_maybe_listed read_key m) (behind_order place selection table clause filter group)
+behind_group place selection table clause filter group m = go_on (marked_maybe_listed marked_key m) (behind_order place selection table clause filter group)
 
 abbrev pub behind_filter : ℕ → Selection → TableName → Option Clause → Option Predicate → Reader Query
-behind_filter place selection table clause filter m = go_on (read_maybe_listed read_column m) (behind_group place selection table clause filter)
+behind_filter place selection table clause filter m = go_on (marked_maybe_listed marked_column m) (behind_group place selection table clause filter)
 
 abbrev pub behind_clause : ℕ → Selection → TableName → Option Clause → Reader Query
-behind_clause place selection table clause m = go_on (read_maybe read_test m) (behind_filter place selection table clause)
+behind_clause place selection table clause m = go_on (marked_maybe marked_test m) (behind_filter place selection table clause)
 
 abbrev pub behind_table : ℕ → Selection → TableName → Reader Query
-behind_table place selection table m = go_on (read_maybe read_clause m) (behind_clause place selection table)
+behind_table place selection table m = go_on (marked_maybe marked_clause m) (behind_clause place selection table)
 
 abbrev pub behind_selection : ℕ → Selection → Reader Query
-behind_selection place selection m = go_on (read_table m) (behind_table place selection)
+behind_selection place selection m = go_on (marked_table m) (behind_table place selection)
 
-abbrev pub read_query : Reader Query
-read_query (At place ∷ m) = go_on (read_selection m) (behind_selection place)
-read_query m = None
+abbrev pub marked_query : Reader Query
+marked_query (At place ∷ m) = go_on (marked_selection m) (behind_selection place)
+marked_query m = None

@@ -19,8 +19,11 @@ unit_number unit.Minutes = 2
 unit_number unit.Seconds = 3
 unit_number unit.Milliseconds = 4
 
+abbrev pub time_unit_marks : TimeUnit → List Mark
+time_unit_marks u = Way (unit_number u) ∷ []
+
 abbrev pub wait_marks : Wait → List Mark
-wait_marks w = number_marks w.amount ++ Way (unit_number w.«unit») ∷ []
+wait_marks w = number_marks w.amount ++ time_unit_marks w.«unit»
 
 abbrev pub statement_marks : Statement → List Mark
 statement_marks (statement.Query q) = query_marks q ++ Way 0 ∷ []
