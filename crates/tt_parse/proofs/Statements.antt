@@ -12,7 +12,7 @@ use Rattle.tt_terminal.specs.declared.rest.Rest.{Rest}
 use Rattle.tt_terminal.specs.Fronts.{front_place}
 use Rattle.tt_terminal.specs.Reading.{Passes, Errs, ReadsBehind, seen, seen_as, first_place}
 use Rattle.tt_parse.specs.Choices.{Skips}
-use Rattle.tt_parse.specs.Answers.{Says}
+use Rattle.tt_parse.specs.Parsed.{Says}
 use Rattle.tt_parse.proofs.Whole.{says_more, says_fault}
 
 -- what the other alternatives say, where none of these begins

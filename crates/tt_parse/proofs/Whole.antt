@@ -17,21 +17,21 @@ use Rattle.tt_terminal.specs.declared.error.ParseError.{ParseError}
 use Rattle.tt_terminal.specs.declared.error.ParseError.TheVariants.{Syntax, Memory}
 use Rattle.tt_terminal.specs.declared.rest.Rest.{Rest}
 use Rattle.tt_terminal.specs.Reading.{Passes, Fails, seen}
-use Rattle.tt_parse.specs.Answers.{Answers, IsAtFault, Says}
+use Rattle.tt_parse.specs.Parsed.{GivesStatement, IsAtFault, Says}
 
 -- ---- to the text
 
 -- what the machine says of the tokens of a text is the statement of the text
-pub says_answers : (text : List ℕ) (tokens : List Token) → tokens_of text ≡ Ok tokens → (result : Result Statement ParseError) → Says most_levels (length text) (lexemes text tokens) result → IfOk result IsGivenStatement → Answers result (statement_of text)
+pub says_answers : (text : List ℕ) (tokens : List Token) → tokens_of text ≡ Ok tokens → (result : Result Statement ParseError) → Says most_levels (length text) (lexemes text tokens) result → IfOk result IsGivenStatement → GivesStatement result (statement_of text)
 says_answers text tokens has (Ok s) says given = found_statement text tokens s has given (statement_ok most_levels (length text) (lexemes text tokens) (statement_marks s) says)
 says_answers text tokens has (Err (Syntax y)) says given = found_fault text tokens y.place has (statement_err most_levels (length text) (lexemes text tokens) y.place (lexemes_known text tokens) says)
 says_answers text tokens has (Err Memory) says given = tt
 
-pub answers_found : (text : List ℕ) (result : Result Statement ParseError) → Answers result (statement_of text) → IfOk result (λ s. IsTextOf text s)
+pub answers_found : (text : List ℕ) (result : Result Statement ParseError) → GivesStatement result (statement_of text) → IfOk result (λ s. IsTextOf text s)
 answers_found text (Ok s) e = is_text_of text s e
 answers_found text (Err e) h = tt
 
-pub answers_fault : (text : List ℕ) (result : Result Statement ParseError) → Answers result (statement_of text) → IsAtFault text result
+pub answers_fault : (text : List ℕ) (result : Result Statement ParseError) → GivesStatement result (statement_of text) → IsAtFault text result
 answers_fault text (Ok s) e = tt
 answers_fault text (Err (Syntax y)) e = is_fault_of text y.place e
 answers_fault text (Err Memory) e = tt

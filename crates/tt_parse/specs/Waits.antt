@@ -1,10 +1,7 @@
 -- The unit of a wait.
-use Rattle.std.specs.Prelude.{List, [], ◌∷◌}
-use Rattle.tt_sql.specs.declared.statement.TimeUnit.{TimeUnit}
-use Rattle.tt_sql.specs.grammar.Grammar.{Gram, Mark, Way, Note}
+use Rattle.tt_sql.specs.grammar.Grammar.{Gram, Note}
 use Rattle.tt_sql.specs.grammar.Combinators.{◌▸◌, ◌∣◌, as_unit, one, way}
 use Rattle.tt_sql.specs.grammar.TokenKinds.{COMMA, UNIT_TEXT}
-use Rattle.tt_sql.specs.marks.Statements.{unit_number}
 
 abbrev pub time_unit : Gram
 time_unit = one UNIT_TEXT ▸ Note as_unit
@@ -12,6 +9,3 @@ time_unit = one UNIT_TEXT ▸ Note as_unit
 -- behind a comma, and else seconds are meant
 abbrev pub time_unit_or_seconds : Gram
 time_unit_or_seconds = one COMMA ▸ time_unit ∣ way 3
-
-abbrev pub time_unit_marks : TimeUnit → List Mark
-time_unit_marks unit = Way (unit_number unit) ∷ []

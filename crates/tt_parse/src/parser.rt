@@ -4,7 +4,7 @@ ghost use Rattle.std.specs.Prelude.{◌≡◌, ◌^◌, ◌<◌, length, Ok, IfO
 ghost use Rattle.tt_lex.specs.TokensOf.{tokens_of};
 ghost use Rattle.tt_sql.specs.determined.Statements.{IsGivenStatement};
 ghost use Rattle.tt_sql.specs.text.StatementOf.{IsTextOf, statement_of};
-ghost use Rattle.tt_parse.specs.Answers.{Answers, IsAtFault, Says};
+ghost use Rattle.tt_parse.specs.Parsed.{GivesStatement, IsAtFault, Says};
 ghost use Rattle.tt_terminal.specs.Reading.{IsKnown, seen};
 
 use crate::lexed::lexed;
@@ -26,7 +26,7 @@ pub fn parse(alloc: Global, text: &str, tokens: &[Token]) -> Result<Statement, P
     requires tokens { tokens_of text.now ≡ Ok tokens.now }
 
     // The statement of the text is given, or the place of its fault.
-    ensures statement { Answers result (statement_of text.now) }
+    ensures statement { GivesStatement result (statement_of text.now) }
 
     // So what is given is spelled by the text, and a place is where no statement goes on.
     ensures found { IfOk result (λ s. IsTextOf text.now s) }

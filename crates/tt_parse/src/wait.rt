@@ -1,10 +1,10 @@
 //! The reader of CALL SYSTEM$WAIT.
 
-ghost use Rattle.tt_sql.specs.marks.Statements.{wait_marks};
+ghost use Rattle.tt_sql.specs.marks.Statements.{time_unit_marks, wait_marks};
 ghost use Rattle.tt_sql.specs.grammar.Written.{wait};
 ghost use Rattle.tt_terminal.specs.Reading.{IsKnown};
 ghost use Rattle.tt_parse.specs.Tables.{IsUnitOrNone};
-ghost use Rattle.tt_parse.specs.Waits.{time_unit, time_unit_or_seconds, time_unit_marks};
+ghost use Rattle.tt_parse.specs.Waits.{time_unit, time_unit_or_seconds};
 ghost use Rattle.tt_terminal.specs.Readers.{ReadsPart};
 
 use std::alloc::Global;

@@ -3,7 +3,7 @@ use Rattle.tt_lex.specs.Lexis.{HasTokens}
 use Rattle.tt_sql.specs.grammar.Grammar.{Lexeme}
 use Rattle.tt_sql.specs.text.StatementOf.{statement_of}
 use Rattle.tt_sql.specs.grammar.TokenKinds.{lexemes}
-use Rattle.tt_parse.specs.Answers.{Answers, Says}
+use Rattle.tt_parse.specs.Parsed.{GivesStatement, Says}
 use Rattle.tt_parse.specs.Lexing.{IsToken}
 use Rattle.tt_parse.proofs.Lexing.{all_tokens, whole_seen}
 use Rattle.tt_parse.proofs.Whole.{answers_fault, answers_found, says_answers}
@@ -25,7 +25,7 @@ says c =
     subst (λ (n : ℕ). Says 256 n (lexemes c.args.text.now c.args.tokens.now) c.whole_statement.result) (ap length c.as_bytes-text.ensures.value)
     (subst (λ (ts : List Lexeme). Says 256 (length c.as_bytes-text.result.now) ts c.whole_statement.result) tokens c.whole_statement.ensures.says)
 
-answers : (c : goal.After-drop-list) → Answers c.whole_statement.result (statement_of c.args.text.now)
+answers : (c : goal.After-drop-list) → GivesStatement c.whole_statement.result (statement_of c.args.text.now)
 answers c = says_answers c.args.text.now c.args.tokens.now c.requires.tokens c.whole_statement.result (says c) c.whole_statement.ensures.given
 
 pub returns-clause-statement : goal.returns-clause-statement

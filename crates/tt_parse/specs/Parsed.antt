@@ -9,10 +9,10 @@ use Rattle.tt_terminal.specs.declared.error.ParseError.{ParseError}
 use Rattle.tt_terminal.specs.declared.error.ParseError.TheVariants.{Syntax, Memory}
 
 -- The result is this statement or the place of this fault, or there is no memory.
-abbrev pub Answers : Result Statement ParseError → Result Statement ℕ → Type 0
-Answers (Ok s) answer = answer ≡ Ok s
-Answers (Err (Syntax y)) answer = answer ≡ Err y.place
-Answers (Err Memory) answer = Unit {0}
+abbrev pub GivesStatement : Result Statement ParseError → Result Statement ℕ → Type 0
+GivesStatement (Ok s) answer = answer ≡ Ok s
+GivesStatement (Err (Syntax y)) answer = answer ≡ Err y.place
+GivesStatement (Err Memory) answer = Unit {0}
 
 -- A place is given only where the text has its fault.
 abbrev pub IsAtFault : List ℕ → Result Statement ParseError → Type 0
