@@ -1,8 +1,8 @@
 //! A sink in memory, which fails the calls that it is told to fail.
-ghost use Rattle.std.specs.Prelude.{◌≡◌, ◌<◌, ◌≤◌, ◌↔◌, [], min, length, Some, OnOk, IfOk, IsErrOf, Contains};
+ghost use Rattle.std.specs.Prelude.{◌≡◌, ◌<◌, ◌≤◌, ◌↔◌, [], min, length, Some, OnOk, IfOk, IsErrOf};
 ghost use Rattle.std.specs.Io.{WritesAtMost};
 ghost use Rattle.std.specs.Io.KnownBytes.{WriteAppends};
-ghost use Rattle.tt_edge.specs.Outside.{one_more, Rose, Counts, Output};
+ghost use Rattle.tt_edge.specs.Outside.{one_more, Rose, Counts, FailsNext, HasOneFaultMore, Output};
 
 use super::outside::{Sink, Unwritten};
 use std::alloc::Global;
@@ -99,7 +99,7 @@ impl Sink for MemorySink {
 
     fn write(&mut self, piece: &[u8]) -> Result<usize, Unwritten>
         // Which calls fail, and how many bytes the others take.
-        ensures which { IsErrOf result Unwritten.Failed ↔ Contains self.old.failing self.old.calls }
+        ensures which { IsErrOf result Unwritten.Failed ↔ FailsNext self.old }
         ensures amount { IfOk result (λ count. count ≡ min self.old.limit (length piece.now)) }
 
         ensures bound { WritesAtMost result piece.now }
@@ -111,7 +111,7 @@ impl Sink for MemorySink {
 
         // What else the sink is afterwards.
         ensures faults_kept { OnOk result (self.new.faults ≡ self.old.faults) }
-        ensures one_fault { IsErrOf result Unwritten.Failed → self.new.faults ≡ one_more self.old.faults }
+        ensures one_fault { IsErrOf result Unwritten.Failed → HasOneFaultMore self.old self.new }
         ensures no_fault { IsErrOf result Unwritten.Memory → self.new.faults ≡ self.old.faults }
         ensures one_call { self.new.calls ≡ one_more self.old.calls }
         ensures same_failing { self.new.failing ≡ self.old.failing }

@@ -2,7 +2,7 @@
 ghost use Rattle.std.specs.Prelude.{ℕ, List, Option, ◌≤◌, ◌<◌, length, OnErr, IfOk, IsErrOf};
 ghost use Rattle.std.specs.Io.{ReadsAtMost, WritesAtMost};
 ghost use Rattle.std.specs.Io.KnownBytes.{ReadConsumes, WriteAppends};
-ghost use Rattle.tt_edge.specs.Outside.{Rose, Counts};
+ghost use Rattle.tt_edge.specs.Outside.{Rose, RoseIn, Counts};
 
 /// A read met a fault of the source.
 #[derive(Clone, Copy, PartialEq, Eq)]
@@ -58,5 +58,5 @@ pub trait Sink {
         ensures bytes { WriteAppends (holds self.old) (holds self.new) result piece.now }
         ensures counted { Counts (received self.old) (received self.new) result }
         ensures later { faults self.old ≤ faults self.new }
-        ensures failed { IsErrOf result Unwritten.Failed → Rose (faults self.old) (faults self.new) };
+        ensures failed { IsErrOf result Unwritten.Failed → RoseIn faults self.old self.new };
 }

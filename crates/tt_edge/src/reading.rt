@@ -1,7 +1,7 @@
 //! Reading a source to its end.
-ghost use Rattle.std.specs.Prelude.{◌≡◌, ℕ, ◌+◌, ◌-◌, ◌^◌, ◌<◌, ◌≤◌, ◌↔◌, length, take, drop, OnOk, OnErr, IfOk, IfSome, IsErrOf, vec_len};
+ghost use Rattle.std.specs.Prelude.{◌≡◌, ℕ, ◌+◌, ◌-◌, ◌^◌, ◌<◌, ◌≤◌, ◌↔◌, length, take, drop, OnOk, OnErr, IfOk, IsErrOf, vec_len};
 ghost use Rattle.std.specs.Io.KnownBytes.{Consumes, IsAtEnd, Keeps};
-ghost use Rattle.tt_edge.specs.Outside.{Rose, LosesFront, Counts};
+ghost use Rattle.tt_edge.specs.Outside.{Rose, RoseIn, RoseBy, RoseByMore, AreAllOf, LosesFront, Counts};
 ghost use Rattle.tt_edge.specs.declared.reading.Unread.TheVariants.{Memory};
 
 use super::outside::Source;
@@ -34,19 +34,19 @@ const PIECE: usize = 65_536;
 /// answer is TooLong, and what was read is let go.
 pub fn read_all<S: Source>(alloc: Global, source: &mut S, most: u32) -> Result<Vec<u8>, Unread>
     // The bytes are all that was left, where this is told, and nothing is left.
-    ensures whole { IfOk result (λ bytes. IfSome (S.left source.old) (λ left. bytes.items ≡ left)) }
+    ensures whole { IfOk result (λ bytes. AreAllOf (S.left source.old) bytes.items) }
     ensures end { OnOk result (IsAtEnd (S.left source.new)) }
     ensures fits { IfOk result (λ bytes. vec_len bytes ≤ most) }
 
     // What was taken from the source, at every answer.
-    ensures counted { IfOk result (λ bytes. S.given source.new ≡ S.given source.old + vec_len bytes) }
+    ensures counted { IfOk result (λ bytes. RoseBy S.given source.old source.new (vec_len bytes)) }
     ensures grows { S.given source.old ≤ S.given source.new }
     ensures taken { LosesFront (S.left source.old) (S.left source.new)
         (S.given source.new - S.given source.old) }
 
     // When each error comes.
-    ensures too_long { IsErrOf result Unread.TooLong ↔ (most < S.given source.new - S.given source.old) }
-    ensures failed { IsErrOf result Unread.Failed → Rose (S.faults source.old) (S.faults source.new) }
+    ensures too_long { IsErrOf result Unread.TooLong ↔ RoseByMore S.given source.old source.new most }
+    ensures failed { IsErrOf result Unread.Failed → RoseIn S.faults source.old source.new }
     ensures later { S.faults source.old ≤ S.faults source.new }
 {
     let limit = most as usize;
@@ -79,7 +79,7 @@ fn read_more<S: Source>(source: &mut S, bytes: &mut Vec<u8>, filled: usize) -> R
     ensures nothing_taken { OnErr result (Keeps (S.left source.old) (S.left source.new)) }
     ensures counted { Counts (S.given source.old) (S.given source.new) result }
     ensures not_too_long { IsErrOf result Unread.TooLong → ⊥ }
-    ensures failed { IsErrOf result Unread.Failed → Rose (S.faults source.old) (S.faults source.new) }
+    ensures failed { IsErrOf result Unread.Failed → RoseIn S.faults source.old source.new }
     ensures later { S.faults source.old ≤ S.faults source.new }
 {
     let wanted = filled + PIECE;

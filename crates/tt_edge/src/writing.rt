@@ -1,7 +1,7 @@
 //! Writing all of a slice to a sink.
 ghost use Rattle.std.specs.Prelude.{◌≡◌, ℕ, ◌+◌, ◌-◌, ◌<◌, ◌≤◌, length, take, drop, OnOk, IfErr};
 ghost use Rattle.std.specs.Io.KnownBytes.{Appends};
-ghost use Rattle.tt_edge.specs.Outside.{Rose};
+ghost use Rattle.tt_edge.specs.Outside.{Rose, RoseBy};
 
 use super::outside::{Sink, Unwritten};
 
@@ -18,12 +18,12 @@ pub struct Unfinished {
 /// its own.
 pub fn write_all<K: Sink>(sink: &mut K, bytes: &[u8]) -> Result<(), Unfinished>
     ensures whole { OnOk result (Appends (K.holds sink.old) (K.holds sink.new) bytes.now) }
-    ensures whole_counted { OnOk result (K.received sink.new ≡ K.received sink.old + length bytes.now) }
+    ensures whole_counted { OnOk result (RoseBy K.received sink.old sink.new (length bytes.now)) }
 
     // What was written before an error, which is not all.
     ensures prefix { IfErr result (λ e. Appends (K.holds sink.old) (K.holds sink.new)
         (take e.written bytes.now)) }
-    ensures prefix_counted { IfErr result (λ e. K.received sink.new ≡ K.received sink.old + e.written) }
+    ensures prefix_counted { IfErr result (λ e. RoseBy K.received sink.old sink.new e.written) }
     ensures short { IfErr result (λ e. e.written < length bytes.now) }
 
     // When the error is a fault.
