@@ -2,6 +2,7 @@
 
 ghost use Rattle.std.specs.Prelude.{◌≡◌, ◌≢◌, ℕ, ◌+◌, ◌≤◌, List, ◌++◌, ℤ, IfSome, IfNone, IfOk, OnOk, OnErr, Ok};
 ghost use Rattle.tt_value.specs.calendar.Calendar.{IsDay, date_of, day_text};
+ghost use Rattle.tt_time.specs.Readings.{MeansDay, IsDayOf, HasNoDay, BeginsWithDay, BeginsWithNoDay};
 ghost use Rattle.std.specs.Result.{result_ok};
 ghost use Rattle.tt_value.specs.calendar.Reading.{day_of};
 
@@ -14,7 +15,7 @@ use std::alloc::AllocError;
 /// the years 1 to 9999 do not have.
 #[tactic(auto, using(crate::proofs::Functions::day_value))]
 pub fn read_date(text: &str) -> Result<i32, BadDate>
-    ensures found { IfOk result (λ day. IsDay day × (text.now ≡ day_text day)) }
+    ensures found { IfOk result (MeansDay text.now) }
     ensures only { (day : ℤ) → IsDay day → text.now ≡ day_text day → result ≡ Ok day }
     // So it is what the function on texts gives.
     ensures value { result_ok result ≡ day_of text.now }
@@ -24,7 +25,7 @@ pub fn read_date(text: &str) -> Result<i32, BadDate>
 
 /// A date that is all of the text.
 fn whole_date(text: &str) -> Result<i32, BadDate>
-    ensures found { IfOk result (λ day. IsDay day × (text.now ≡ day_text day)) }
+    ensures found { IfOk result (MeansDay text.now) }
     ensures only { (day : ℤ) → IsDay day → text.now ≡ day_text day → result ≡ Ok day }
 {
     let Some((day, rest)) = date_at(text.as_bytes()) else {
@@ -48,8 +49,8 @@ pub fn write_date(day: i32, out: &mut Vec<u8>) -> Result<(), AllocError>
 
 /// A date at the front of a text, and what stands behind it.
 pub(crate) fn date_at(bytes: &[u8]) -> Option<(i32, &[u8])>
-    ensures found { IfSome result (λ read. IsDay read.0 × (bytes.now ≡ day_text read.0 ++ read.1.now)) }
-    ensures none { IfNone result ((day : ℤ) (rest : List ℕ) → IsDay day → bytes.now ≢ day_text day ++ rest) }
+    ensures found { IfSome result (λ read. BeginsWithDay bytes.now read.0 read.1.now) }
+    ensures none { IfNone result (BeginsWithNoDay bytes.now) }
 {
     let (year, rest) = four_digits(bytes)?;
     let rest = after(rest, b'-')?;
@@ -65,8 +66,8 @@ fn day_number(year: u16, month: u8, day: u8) -> Option<i32>
     requires year_in { year ≤ 9999 }
     requires month_in { month ≤ 99 }
     requires day_in { day ≤ 99 }
-    ensures found { IfSome result (λ n. IsDay n × (date_of n ≡ record { year = year; month = month; day = day })) }
-    ensures none { IfNone result ((n : ℤ) → IsDay n → date_of n ≢ record { year = year; month = month; day = day }) }
+    ensures found { IfSome result (IsDayOf (record { year = year; month = month; day = day })) }
+    ensures none { IfNone result (HasNoDay (record { year = year; month = month; day = day })) }
 {
     if year == 0 {
         return None;

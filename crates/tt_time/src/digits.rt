@@ -2,11 +2,12 @@
 
 ghost use Rattle.std.specs.Prelude.{◌≡◌, ◌≢◌, ℕ, ◌+◌, ◌≤◌, List, ◌∷◌, ◌++◌, IfSome, IfNone};
 ghost use Rattle.tt_value.specs.calendar.Calendar.{two_digits, four_digits};
+ghost use Rattle.tt_time.specs.Readings.{BeginsWithDigit, BeginsWithNoDigit, BeginsWithTwoDigits, BeginsWithoutTwoDigits, BeginsWithFourDigits, BeginsWithoutFourDigits};
 
 /// A digit, and what stands behind it.
 pub fn digit_of(bytes: &[u8]) -> Option<(u8, &[u8])>
-    ensures found { IfSome result (λ read. (read.0 ≤ 9) × (bytes.now ≡ (48 + read.0) ∷ read.1.now)) }
-    ensures none { IfNone result ((n : ℕ) (rest : List ℕ) → n ≤ 9 → bytes.now ≢ (48 + n) ∷ rest) }
+    ensures found { IfSome result (λ read. BeginsWithDigit bytes.now read.0 read.1.now) }
+    ensures none { IfNone result (BeginsWithNoDigit bytes.now) }
 {
     let (first, rest) = bytes.split_first()?;
     if first.is_ascii_digit() {
@@ -18,8 +19,8 @@ pub fn digit_of(bytes: &[u8]) -> Option<(u8, &[u8])>
 
 /// A number of two digits, and what stands behind it.
 pub fn two_digits(bytes: &[u8]) -> Option<(u8, &[u8])>
-    ensures found { IfSome result (λ read. (read.0 ≤ 99) × (bytes.now ≡ two_digits read.0 ++ read.1.now)) }
-    ensures none { IfNone result ((n : ℕ) (rest : List ℕ) → n ≤ 99 → bytes.now ≢ two_digits n ++ rest) }
+    ensures found { IfSome result (λ read. BeginsWithTwoDigits bytes.now read.0 read.1.now) }
+    ensures none { IfNone result (BeginsWithoutTwoDigits bytes.now) }
 {
     let (tens, rest) = digit_of(bytes)?;
     let (ones, rest) = digit_of(rest)?;
@@ -28,8 +29,8 @@ pub fn two_digits(bytes: &[u8]) -> Option<(u8, &[u8])>
 
 /// A number of four digits, and what stands behind it.
 pub fn four_digits(bytes: &[u8]) -> Option<(u16, &[u8])>
-    ensures found { IfSome result (λ read. (read.0 ≤ 9999) × (bytes.now ≡ four_digits read.0 ++ read.1.now)) }
-    ensures none { IfNone result ((n : ℕ) (rest : List ℕ) → n ≤ 9999 → bytes.now ≢ four_digits n ++ rest) }
+    ensures found { IfSome result (λ read. BeginsWithFourDigits bytes.now read.0 read.1.now) }
+    ensures none { IfNone result (BeginsWithoutFourDigits bytes.now) }
 {
     let (high, rest) = two_digits(bytes)?;
     let (low, rest) = two_digits(rest)?;

@@ -2,6 +2,7 @@
 
 ghost use Rattle.std.specs.Prelude.{◌≡◌, ◌≢◌, ℕ, ◌+◌, ◌*◌, ◌<◌, ◌≤◌, List, ◌++◌, IfSome, IfNone, IfOk, Ok};
 ghost use Rattle.tt_value.specs.calendar.Calendar.{Timestamp, IsTimestamp, timestamp_text, moment_of, Clock, IsClock, clock_text, seconds_of};
+ghost use Rattle.tt_time.specs.Readings.{MeansMoment, IfTimestamp, IsNoTimestamp, BeginsWithClock, BeginsWithNoClock};
 ghost use Rattle.tt_time.specs.Tails.{first_digit_at, second_digit_at, third_digit_at, zone_at, tail_at};
 ghost use Rattle.std.specs.Result.{result_ok};
 ghost use Rattle.tt_value.specs.calendar.Reading.{timestamp_of};
@@ -20,8 +21,8 @@ const LAST_SECOND: u8 = 59;
 /// optionally `.` and 1 to 3 digits, and optionally `Z`. Any other text is refused.
 #[tactic(auto, using(crate::proofs::Functions::moment_value))]
 pub fn read_timestamp(text: &str) -> Result<i64, BadTimestamp>
-    ensures found { IfOk result (λ moment. (t : Timestamp) × IsTimestamp t × (text.now ≡ timestamp_text t) × (moment ≡ moment_of t)) }
-    ensures only { (t : Timestamp) → IsTimestamp t → text.now ≡ timestamp_text t → result ≡ Ok (moment_of t) }
+    ensures found { IfOk result (MeansMoment text.now) }
+    ensures only { IfTimestamp text.now (λ t. result ≡ Ok (moment_of t)) }
     // So it is what the function on texts gives.
     ensures value { result_ok result ≡ timestamp_of text.now }
 {
@@ -30,8 +31,8 @@ pub fn read_timestamp(text: &str) -> Result<i64, BadTimestamp>
 
 /// A timestamp that is all of the text.
 fn whole_timestamp(text: &str) -> Result<i64, BadTimestamp>
-    ensures found { IfOk result (λ moment. (t : Timestamp) × IsTimestamp t × (text.now ≡ timestamp_text t) × (moment ≡ moment_of t)) }
-    ensures only { (t : Timestamp) → IsTimestamp t → text.now ≡ timestamp_text t → result ≡ Ok (moment_of t) }
+    ensures found { IfOk result (MeansMoment text.now) }
+    ensures only { IfTimestamp text.now (λ t. result ≡ Ok (moment_of t)) }
 {
     match moment_at(text.as_bytes()) {
         Some(moment) => Ok(moment),
@@ -40,8 +41,8 @@ fn whole_timestamp(text: &str) -> Result<i64, BadTimestamp>
 }
 
 fn moment_at(bytes: &[u8]) -> Option<i64>
-    ensures found { IfSome result (λ moment. (t : Timestamp) × IsTimestamp t × (bytes.now ≡ timestamp_text t) × (moment ≡ moment_of t)) }
-    ensures none { IfNone result ((t : Timestamp) → IsTimestamp t → bytes.now ≢ timestamp_text t) }
+    ensures found { IfSome result (MeansMoment bytes.now) }
+    ensures none { IfNone result (IsNoTimestamp bytes.now) }
 {
     let (day, rest) = date_at(bytes)?;
     let (between, rest) = rest.split_first()?;
@@ -56,8 +57,8 @@ fn moment_at(bytes: &[u8]) -> Option<i64>
 
 /// A time of day at the front of a text, in seconds, and what stands behind it.
 fn clock_at(bytes: &[u8]) -> Option<(u32, &[u8])>
-    ensures found { IfSome result (λ read. (clock : Clock) × IsClock clock × (bytes.now ≡ clock_text clock ++ read.1.now) × (read.0 ≡ seconds_of clock)) }
-    ensures none { IfNone result ((clock : Clock) (rest : List ℕ) → IsClock clock → bytes.now ≢ clock_text clock ++ rest) }
+    ensures found { IfSome result (λ read. BeginsWithClock bytes.now read.0 read.1.now) }
+    ensures none { IfNone result (BeginsWithNoClock bytes.now) }
 {
     let (hour, rest) = two_digits(bytes)?;
     let rest = after(rest, b':')?;

@@ -10,7 +10,7 @@ pub returns-clause-date : goal.returns-clause-date
 returns-clause-date c = λ day within. (numbered day within).0
 
 pub returns-clause-day : goal.returns-clause-day
-returns-clause-day c = λ date civil. let d = day_is date (number date) civil refl in (number date, d.0, d.1)
+returns-clause-day c = λ date civil. let d = day_is date (number date) civil refl in (number date, d)
 
 pub returns-clause-one : goal.returns-clause-one
 returns-clause-one c = one_day
