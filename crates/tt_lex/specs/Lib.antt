@@ -1,3 +1,4 @@
+pub mod Laws
 pub mod Lexis
 pub mod Scanning
 pub mod TokensOf

@@ -3,7 +3,8 @@
 ghost use Rattle.std.specs.Prelude.{◌≡◌, ℕ, ◌^◌, ◌<◌, List, length, All, IfOk};
 ghost use Rattle.tt_lex.specs.declared.Token.{Token};
 ghost use Rattle.tt_lex.specs.declared.LexFault.{LexFault};
-ghost use Rattle.tt_lex.specs.Lexis.{HasTokens, HasFault, IfFault, GivesTokens, GivesFault, AreInOrder, IsBetweenCharacters};
+ghost use Rattle.tt_lex.specs.Lexis.{HasTokens, HasFault, IfFault, AreInOrder, IsBetweenCharacters};
+ghost use Rattle.tt_lex.specs.Laws.{GivesTokensOf, GivesFaultOf};
 ghost use Rattle.tt_lex.specs.TokensOf.{tokens_of, Gives};
 
 use crate::scan::front_of;
@@ -16,11 +17,11 @@ pub fn tokens(alloc: Global, text: &str) -> Result<Vec<Token>, TokensError>
 
     // The tokens that are given are those of the text, and those of the text are given.
     ensures found { IfOk result (λ tokens. HasTokens text.now tokens.items) }
-    ensures only { (tokens : List Token) → HasTokens text.now tokens → GivesTokens tokens result }
+    ensures only { GivesTokensOf text.now result }
 
     // The fault that is given is the text's first one, and the text's first one is given.
     ensures fault { IfFault result (HasFault text.now) }
-    ensures only_fault { (fault : LexFault) → HasFault text.now fault → GivesFault fault result }
+    ensures only_fault { GivesFaultOf text.now result }
 
     // So it is what the function on texts gives, unless memory runs out.
     ensures value { Gives (tokens_of text.now) result }

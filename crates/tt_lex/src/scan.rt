@@ -4,7 +4,7 @@ ghost use Rattle.std.specs.Prelude.{◌≡◌, ◌≢◌, ℕ, ◌+◌, ◌^◌,
 ghost use Rattle.std.specs.List.{prefix_len};
 ghost use Rattle.std.specs.Char.{is_ascii_digit};
 ghost use Rattle.tt_lex.specs.Lexis.{is_white, is_word_start, is_word_part, is_line_byte, is_text_byte, is_sign, doubled, NotClosed, StopsAt, IsFault};
-ghost use Rattle.tt_lex.specs.Scanning.{Takes, Closes, BeginsNoOther};
+ghost use Rattle.tt_lex.specs.Scanning.{Takes, Closes, ClosesComment, BeginsNoOther};
 
 use crate::{LexFault, TokenKind};
 
@@ -217,7 +217,7 @@ fn comment_of(rest: &[u8], at: u32) -> Result<Front, LexFault>
 
 /// How many bytes stand in front of the first `*/`, if there is one.
 fn body_length(rest: &[u8]) -> Option<usize>
-    ensures found { IfSome result (λ n. (body : List ℕ) × (behind : List ℕ) × (rest.now ≡ body ++ (codes "*/" ++ behind)) × NotClosed body × (n ≡ length body)) }
+    ensures found { IfSome result (ClosesComment rest.now) }
     ensures none { IfNone result (NotClosed rest.now) }
 {
     for i in 1..rest.len() {
