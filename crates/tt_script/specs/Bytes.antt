@@ -1,5 +1,5 @@
 -- Bytes by what they may stand for.
-use Rattle.std.specs.Prelude.{ℕ, Bool, ◌||◌, ◌&&◌, not, ◌==◌, nat_le}
+use Rattle.std.specs.Prelude.{◌≡◌, ℕ, ◌+◌, ◌<◌, Bool, ◌||◌, ◌&&◌, not, ◌==◌, nat_le, List, length, drop}
 
 -- space, tab, carriage return and line feed
 abbrev pub is_white : ℕ → Bool
@@ -24,3 +24,7 @@ is_digit byte = nat_le 48 byte && nat_le byte 57
 -- a lower-case letter or a digit
 abbrev pub is_session_byte : ℕ → Bool
 is_session_byte byte = is_lower byte || is_digit byte
+
+-- there is a byte at this place, and the rest stands behind it
+abbrev pub StandsBehind : ℕ → List ℕ → List ℕ → Type 0
+StandsBehind place bytes rest = (place < length bytes) × (rest ≡ drop (place + 1) bytes)

@@ -5,3 +5,4 @@ pub mod Lines
 pub mod Pieces
 pub mod Program
 pub mod Script
+pub mod Makeup

@@ -79,3 +79,7 @@ kind_of (Other b) = kinds.Solid
 -- the kind of each byte of pieces
 abbrev pub kinds_of : List Piece → List Kind
 kinds_of pieces = flat_map (λ piece. replicate (length (spelling piece)) (kind_of piece)) pieces
+
+-- the body is spelled by pieces
+abbrev pub IsMadeUp : List ℕ → Type 0
+IsMadeUp body = (pieces : List Piece) × (body ≡ spelled pieces) × ArePieces pieces

@@ -1,7 +1,7 @@
 -- What holds of each program, whatever script it was read from.
 use Rattle.std.specs.Prelude.{◌≡◌, ◌≢◌, ℕ, ◌<◌, ◌≤◌, Bool, true, ◌||◌, ◌&&◌, ◌==◌, nat_le, List, length, All, AllPairs, Option, slice_get, slice_range}
 use Rattle.std.specs.List.{flat_map, list_all}
-use Rattle.std.specs.Option.{option_and_then}
+use Rattle.std.specs.Option.{option_and_then, option_map}
 use Rattle.std.specs.Str.{IsCharBoundary}
 use Rattle.std.specs.Char.{is_ascii_alphanumeric}
 use Rattle.tt_script.specs.declared.script.Script.{Script}
@@ -60,3 +60,7 @@ span_of script session statement = option_and_then (λ lines. slice_get lines.st
 
 abbrev pub text_at : Script → ℕ × ℕ → List ℕ
 text_at script span = slice_range script.text span.0 span.1
+
+-- the text of a session's statement, both counted from 0, if there is one
+abbrev pub statement_text : Script → ℕ → ℕ → Option (List ℕ)
+statement_text script session statement = option_map (text_at script) (span_of script session statement)

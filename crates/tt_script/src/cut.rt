@@ -3,6 +3,7 @@
 ghost use Rattle.std.specs.Prelude.{◌≡◌, ℕ, ◌+◌, ◌<◌, ◌≤◌, ◌^◌, ◌++◌, not, length, take, drop, slice_index, IfSome, IfNone, IfOk, OnOk};
 ghost use Rattle.std.specs.List.{prefix_len, position_or_len, slice_split};
 ghost use Rattle.tt_script.specs.Body.{kind_at, inside_after, kinds_in, is_cut, is_gap, part_span, statements_in, begins_comment};
+ghost use Rattle.tt_script.specs.Bytes.{StandsBehind};
 ghost use Rattle.tt_script.specs.declared.cut.Inside.TheVariants.{Nothing};
 
 use crate::lines::is_white;
@@ -129,7 +130,7 @@ fn gap_length(body: &[u8]) -> usize
 
 /// What stands behind the byte at a place, if there is one.
 fn behind(bytes: &[u8], place: usize) -> Option<&[u8]>
-    ensures some { IfSome result (λ rest. (place < length bytes.now) × (rest.now ≡ drop (place + 1) bytes.now)) }
+    ensures some { IfSome result (λ rest. StandsBehind place bytes.now rest.now) }
     ensures none { IfNone result (length bytes.now ≤ place) }
 {
     if place < bytes.len() {

@@ -1,8 +1,8 @@
 //! Programs, as they are read from scripts.
 
 ghost use Rattle.std.specs.Prelude.{◌≡◌, string_bytes, IfOk};
-ghost use Rattle.std.specs.Option.{option_copied, option_map};
-ghost use Rattle.tt_script.specs.Program.{IsProgram, span_of, text_at};
+ghost use Rattle.std.specs.Option.{option_copied};
+ghost use Rattle.tt_script.specs.Program.{IsProgram, statement_text};
 
 use std::alloc::{AllocError, Global};
 use std::marker::Model;
@@ -122,7 +122,7 @@ impl Program {
 
     /// The text of a session's statement, both counted from 0, if there is one.
     pub fn statement(&self, session: usize, statement: usize) -> Option<&str>
-        ensures { option_copied result ≡ option_map (text_at self.now) (span_of self.now session statement) }
+        ensures { option_copied result ≡ statement_text self.now session statement }
     {
         let script = self.script();
         let lines = script.sessions.get(session)?;
