@@ -44,7 +44,7 @@ seen_after {X = X} f m n name w t changed is =
     (λ q. get-seen f n q ∙ ap (option_map f) (changed q) ∙ map_cond f (bytes_eq name q) w (get_by_text m q)
     ∙ ap (λ (o : Option X). cond (bytes_eq name q) (option_map f w) o) (sym (get-seen f m q)) ∙ sym (is q))
 
-same_name : (name q : List ℕ) → eq_by_cmp (slice_cmp nat_cmp) q name ≡ bytes_eq name q
+pub same_name : (name q : List ℕ) → eq_by_cmp (slice_cmp nat_cmp) q name ≡ bytes_eq name q
 same_name name q = is_eq-slice_cmp q name ∙ nat_list_eq_equiv.symm q name
 
 pub seen-insert : {V X S : Type 0} (f : V → X) (m n : HashMap (String Global) V S) (name : List ℕ) (v : V)
