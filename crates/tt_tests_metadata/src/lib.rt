@@ -1,7 +1,13 @@
-//! Tests of what the store keeps beside its rows: retention, layouts.
+//! Tests of the crates that keep what a store knows beside its rows.
 #![tactic(auto)]
 
 #[cfg(test)]
+mod bits;
+#[cfg(test)]
 mod layouts;
+#[cfg(test)]
+mod marks;
+#[cfg(test)]
+mod names;
 #[cfg(test)]
 mod retention;
