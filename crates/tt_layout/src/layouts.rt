@@ -14,7 +14,7 @@ const STRIDE: usize = 64;
 
 /// The numbers of a table's partitions, from each moment at which they changed, in milliseconds since 1970.
 /// Contracts see the list of the layouts in order, each with the moment at which it begins and its numbers, which ascend.
-#[derive(Drop)]
+#[derive(Clone, Drop)]
 pub struct Layouts {
     pieces: Vec<(u64, Piece)>,
 }

@@ -6,7 +6,7 @@ use tt_value::Sequence;
 
 /// A layout as the full list of its numbers, or as what is gone and what was added since the layout before it.
 /// Each list ascends.
-#[derive(Drop)]
+#[derive(Clone, Drop)]
 pub enum Piece {
     Full(Sequence<u64>),
     Change {

@@ -44,6 +44,23 @@ impl Model for Regimes {
     ghost invariant = { λ r. FollowsFrom 0 (regimes_in r.steps.items) × HaveRightFloors r.steps.items × (r.ended ≡ false → vec_len r.steps < vec_capacity r.steps) };
 }
 
+impl Clone for Regimes {
+    ghost use Rattle.std.specs.Prelude.{◌≡◌};
+
+    ghost is_clone = { λ regimes copy. copy ≡ regimes };
+
+    /// An equal value with room for one more regime of its own.
+    fn clone(&self) -> Result<Regimes, AllocError> {
+        let mut steps = Vec::with_capacity(*self.steps.allocator(), self.steps.len() + 1)?;
+        steps.extend_from_slice(&self.steps)?;
+        Ok(Regimes {
+            steps,
+            transient: self.transient,
+            ended: self.ended,
+        })
+    }
+}
+
 impl Regimes {
     /// A table that is made at a moment and keeps its past for so many days.
     pub fn new(alloc: Global, made: u64, days: u8, transient: bool) -> Result<Regimes, AllocError>

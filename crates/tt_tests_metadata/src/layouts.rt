@@ -1,7 +1,7 @@
 //! Layouts of tables, their changes and the pieces of the chain, by hand.
 ghost use Rattle.std.specs.Prelude.{◌≡◌, ◌+◌, ◌^◌, ◌<◌, length, IfOk};
 
-use std::alloc::Global;
+use std::alloc::{AllocError, Global};
 use std::process::Abort;
 use std::test::Fail;
 use tt_layout::{Layouts, Piece};
@@ -24,6 +24,13 @@ fn chain_of(alloc: Global, count: u64) -> Result<Layouts, Fail>
         layouts.push(number + 2, &[], &[number + 1])?;
     }
     Ok(layouts)
+}
+
+/// An equal value of its own.
+fn copy_of(layouts: &Layouts) -> Result<Layouts, AllocError>
+    ensures { IfOk result (λ copy. copy ≡ layouts.now) }
+{
+    layouts.clone()
 }
 
 /// At each moment the numbers, none before the first layout.
@@ -141,5 +148,20 @@ fn a_full_piece_is_taken_back(rt: HostRuntime) -> Result<(), Fail> {
     shorter.pop();
     assert_pieces(&rt, &shorter, 63);
     assert_eq!(rt; shorter.current()?.len(), 62);
+    Ok(())
+}
+
+#[test]
+fn a_copy_is_a_value_of_its_own(rt: HostRuntime) -> Result<(), Fail> {
+    let mut layouts = Layouts::new(rt.alloc(), 5, list_of(rt.alloc(), &[1, 2])?)?;
+    layouts.push(10, &[2], &[4])?;
+    let copy = copy_of(&layouts)?;
+    layouts.pop();
+    assert_layouts(
+        &rt,
+        &copy,
+        &[(4, None), (9, Some(&[1, 2])), (10, Some(&[1, 4]))],
+    )?;
+    assert_eq!(rt; layouts.current()?.as_slice(), [1, 2].as_slice());
     Ok(())
 }

@@ -1,7 +1,17 @@
 //! Horizons, stages and days, counted by hand. A day is 86,400,000 milliseconds, 90 days are 7,776,000,000.
+ghost use Rattle.std.specs.Prelude.{◌≡◌, IfOk};
+
+use std::alloc::AllocError;
 use std::process::Abort;
 use std::test::Fail;
 use tt_retain::{Regimes, Stage};
+
+/// An equal value of its own.
+fn copy_of(regimes: &Regimes) -> Result<Regimes, AllocError>
+    ensures { IfOk result (λ copy. copy ≡ regimes.now) }
+{
+    regimes.clone()
+}
 
 /// At each moment the horizon.
 fn assert_horizons<R: Abort>(rt: &R, regimes: &Regimes, rows: &[(i64, i64)]) {
@@ -195,5 +205,16 @@ fn a_clone_takes_the_days_of_now(rt: HostRuntime) -> Result<(), Fail> {
             (7_776_000_050, 50),
         ],
     );
+    Ok(())
+}
+
+#[test]
+fn a_copy_is_a_value_of_its_own(rt: HostRuntime) -> Result<(), Fail> {
+    let mut regimes = Regimes::new(rt.alloc(), 1, 90, false)?;
+    regimes.set(6, 0)?;
+    let copy = copy_of(&regimes)?;
+    regimes.end(7);
+    assert_horizons(&rt, &copy, &[(5, -7_775_999_995), (6, 6), (7, 7)]);
+    assert!(rt; !copy.is_transient());
     Ok(())
 }
