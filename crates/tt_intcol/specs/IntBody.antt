@@ -1,12 +1,13 @@
 -- Columns of numbers: the bytes of a value, the frame, and which of the four bodies a column has.
-use Rattle.std.specs.Prelude.{ℕ, max, ℤ, pos, negsuc, ◌-ℤ◌, ◌≤ℤ◌, nat_lt, if◌then◌else◌, List, [], ◌∷◌, ◌++◌, length, map, take, fold, Option}
+use Rattle.std.specs.Prelude.{◌≡◌, ℕ, ◌*◌, Bool, ◌==◌, max, ℤ, pos, negsuc, ◌-ℤ◌, ◌≤ℤ◌, nat_lt, if◌then◌else◌, List, [], ◌∷◌, ◌++◌, length, map, take, fold, Option}
+use Rattle.std.specs.List.{flat_map}
 use Rattle.std.specs.Int.{w64, to_le_bytes, cast_unsigned, int_min}
 use Rattle.std.specs.Int.RustNames.{unsigned_abs, FitsSigned}
 use Rattle.std.specs.Ordering.{int_cmp}
 use Rattle.tt_value.specs.declared.value.Kind.{Kind}
 use Rattle.tt_value.specs.declared.value.Kind.TheVariants.{Date}
-use Rattle.tt_value.specs.columns.Packing.{packed, width_of}
-use Rattle.tt_value.specs.columns.Body.{plain_body, run_body, dictionary_body, present, has_null, bitmap_of}
+use Rattle.tt_value.specs.columns.Packing.{packed, bytes_for, width_of}
+use Rattle.tt_value.specs.columns.Body.{plain_body, run_body, run_bytes, dictionary_body, present, has_null, bitmap_of}
 use Rattle.tt_intcol.specs.declared.encoding.Encoding.{Encoding}
 use Rattle.tt_intcol.specs.declared.encoding.Encoding.TheVariants.{Plain, Frame, Run, Dictionary}
 use Rattle.tt_intcol.specs.declared.column.IntColumn.{IntColumn}
@@ -19,6 +20,13 @@ value_size _ = 8
 -- the low bytes of its two's complement, the lowest first
 abbrev pub value_bytes : Kind → ℤ → List ℕ
 value_bytes kind v = take (value_size kind) (to_le_bytes w64 (cast_unsigned w64 v))
+
+abbrev pub values_bytes : Kind → List ℤ → List ℕ
+values_bytes kind vs = flat_map (value_bytes kind) vs
+
+-- runs, each a value and a length
+abbrev pub runs_bytes : Kind → List (ℤ × ℕ) → List ℕ
+runs_bytes kind runs = flat_map (run_bytes (value_bytes kind) int_cmp) runs
 
 -- the first and the last day of the years 1 to 9999
 abbrev pub first_day : ℤ
@@ -46,6 +54,10 @@ height low v = unsigned_abs (v -ℤ low)
 
 abbrev pub greatest_of : List ℕ → ℕ
 greatest_of ns = fold max 0 ns
+
+-- how many bytes the differences to the least value take
+abbrev pub heights_size : List ℤ → ℕ
+heights_size vs = bytes_for (length vs * width_of (greatest_of (map (height (least_of vs)) vs)))
 
 -- the least value, a width, and the differences to the least value in so many bits each
 abbrev pub frame_body : Kind → List ℤ → List ℕ
@@ -79,6 +91,18 @@ choices (v ∷ vs) = Frame ∷ Run ∷ Dictionary ∷ []
 -- the encoding with the shortest body, of equal ones that of the least code
 unfoldable pub encoding_of : Kind → List ℤ → Encoding
 encoding_of kind vs = shortest (λ e. length (body kind vs e)) Plain (choices vs)
+
+-- whether it is this one
+abbrev pub is_encoding_of : Kind → List ℤ → Encoding → Bool
+is_encoding_of kind vs e = code (encoding_of kind vs) == code e
+
+-- whether the dictionary's body is shorter than so many bytes
+abbrev pub has_shorter_dictionary : Kind → List ℤ → ℕ → Bool
+has_shorter_dictionary kind vs bytes = nat_lt (length (body kind vs Dictionary)) bytes
+
+-- of the forms but for the dictionary this is the one to take, its body having so many bytes
+abbrev pub IsBestBesideDictionary : Kind → List ℤ → ℕ → Encoding → Type 0
+IsBestBesideDictionary kind vs bytes e = (if has_shorter_dictionary kind vs bytes then Dictionary else e) ≡ encoding_of kind vs
 
 -- the column of these rows
 unfoldable pub column_of : Kind → List (Option ℤ) → IntColumn

@@ -1,12 +1,15 @@
 -- Reading a column of numbers, with the place of the first fault.
-use Rattle.std.specs.Prelude.{◌≡◌, ℕ, zero, suc, ◌+◌, ◌-◌, ℤ, pos, ◌+ℤ◌, Bool, false, not, ◌&&◌, ◌==◌, List, length, map, Option, Result, Ok, Err}
-use Rattle.std.specs.List.{list_any, list_all}
+use Rattle.std.specs.Prelude.{◌≡◌, ℕ, zero, suc, ◌+◌, ◌-◌, ◌*◌, ℤ, pos, ◌+ℤ◌, Bool, false, not, ◌&&◌, ◌==◌, nat_lt, if◌then◌else◌, List, length, map, Option, Result, Ok, Err}
+use Rattle.std.specs.Borrow.{Bor}
+use Rattle.std.specs.Global.{Vec}
+use Rattle.std.specs.List.{list_any, list_all, AllByRecursion}
 use Rattle.std.specs.Int.{w32, w64, w8, cast_signed}
 use Rattle.std.specs.Int.RustNames.{int_le}
 use Rattle.std.specs.Ordering.{int_cmp}
 use Rattle.tt_value.specs.declared.value.Kind.{Kind}
 use Rattle.tt_value.specs.declared.value.Kind.TheVariants.{Date}
-use Rattle.tt_value.specs.columns.Packing.{width_of}
+use Rattle.tt_value.specs.columns.Packing.{bytes_for, width_of}
+use Rattle.tt_value.specs.columns.Body.{present}
 use Rattle.tt_value.specs.columns.Reading.{◌>>=◌, checked, at_byte, at_encoding, is_longer, in_column, number_at, packed_at, values_at, run_values_at, dictionary_values_at, ended, flags_at, present_count, spread}
 use Rattle.tt_value.specs.declared.column.BadColumn.{BadColumn}
 use Rattle.tt_intcol.specs.declared.encoding.Encoding.{Encoding}
@@ -16,7 +19,7 @@ use Rattle.tt_intcol.specs.declared.column.DecodeError.{DecodeError}
 use Rattle.tt_intcol.specs.declared.column.DecodeError.TheVariants as errors
 use Rattle.tt_intcol.specs.declared.parts.PartError.{PartError}
 use Rattle.tt_intcol.specs.declared.parts.PartError.TheVariants as part_errors
-use Rattle.tt_intcol.specs.IntBody.{first_day, last_day, greatest_of, code, encoding_of}
+use Rattle.tt_intcol.specs.IntBody.{first_day, last_day, IsValue, greatest_of, code, encoding_of, column_of}
 
 -- What a function returned of a part, seen by view, is what reading gives, unless memory ran out.
 abbrev pub FailsPart : {Y : Type 0} → PartError → Result Y ℕ → Type 0
@@ -26,6 +29,17 @@ FailsPart (part_errors.At place) read = read ≡ Err place
 abbrev pub GivesPart : {X Y : Type 0} → (X → Y) → Result X PartError → Result Y ℕ → Type 0
 GivesPart view (Ok x) read = read ≡ Ok (view x)
 GivesPart view (Err e) read = FailsPart e read
+
+-- the same of one thing or of a list, and of what stands behind it
+abbrev pub GivesOne : {V : Type 0} → Result (V × Bor (List ℕ)) PartError → Result (V × List ℕ) ℕ → Type 0
+GivesOne result read = GivesPart (λ x. (x.0, x.1.now)) result read
+
+abbrev pub GivesList : {V : Type 0} → Result (Vec V × Bor (List ℕ)) PartError → Result (List V × List ℕ) ℕ → Type 0
+GivesList result read = GivesPart (λ x. (x.0.items, x.1.now)) result read
+
+-- the same of a list behind which nothing stands
+abbrev pub GivesWhole : {V : Type 0} → Result (Vec V) PartError → Result (List V) ℕ → Type 0
+GivesWhole result read = GivesPart (λ v. v.items) result read
 
 -- The same of a column, whose fault says also whether it is at the byte of the encoding.
 abbrev pub Fails : {Y : Type 0} → DecodeError → Result Y BadColumn → Type 0
@@ -78,6 +92,10 @@ frame_at kind end count bytes = do
   ns ← packed_at end width.0 count width.1
   checked (is_frame kind low.0 width.0 ns.0) (end - length width.1) (map (λ n. low.0 +ℤ pos n) ns.0, ns.1)
 
+-- the fault of packed numbers that are wider than any difference: at the end where there are too few bytes, and else at their first byte
+abbrev pub packed_fault : ℕ → ℕ → ℕ → List ℕ → ℕ
+packed_fault end width count bytes = if nat_lt (length bytes) (bytes_for (count * width)) then end else end - length bytes
+
 -- the values of a body, and what stands behind its last part
 abbrev pub body_at : Kind → Encoding → ℕ → ℕ → List ℕ → Result (List ℤ × List ℕ) ℕ
 body_at kind Plain end count bytes = values_at (value_at kind) int_cmp end count bytes
@@ -123,3 +141,11 @@ rows_of kind rows column = do
   flags ← in_column (flags_at rows column.nulls column.bitmap)
   vs ← values_in kind e (length column.bitmap + length column.body) (present_count flags) column.body
   Ok (spread flags vs)
+
+-- the rows of a column of these bytes
+abbrev pub rows_in : Kind → ℕ → ℕ → Bool → List ℕ → List ℕ → Result (List (Option ℤ)) BadColumn
+rows_in kind rows encoding nulls bitmap body = rows_of kind rows (column_with encoding nulls bitmap body)
+
+-- this holds of the rows whose column it is: so many rows, of the kind
+abbrev pub IfColumnOf : Kind → ℕ → IntColumn → (List (Option ℤ) → Type 0) → Type 0
+IfColumnOf kind rows column P = (vs : List (Option ℤ)) → AllByRecursion (IsValue kind) (present vs) → length vs ≡ rows → column ≡ column_of kind vs → P vs

@@ -4,7 +4,7 @@ ghost use Rattle.std.specs.Prelude.{◌≡◌, ◌+◌, ◌-◌, ◌*◌, ◌^�
 ghost use Rattle.std.specs.List.{flat_map};
 ghost use Rattle.std.specs.Ordering.{int_cmp};
 ghost use Rattle.tt_value.specs.columns.Body.{plain_body, run_body, run_bytes, dictionary_body, runs_of, distinct, index_in};
-ghost use Rattle.tt_intcol.specs.IntBody.{value_bytes, frame_body, body, least_of, height};
+ghost use Rattle.tt_intcol.specs.IntBody.{value_bytes, values_bytes, runs_bytes, frame_body, body, least_of, height};
 
 use crate::choice::{distinct_values, least, value_size};
 use crate::encoding::Encoding;
@@ -20,7 +20,7 @@ fn push_value(out: &mut Vec<u8>, kind: Kind, value: i64) -> Result<(), AllocErro
 }
 
 fn push_values(out: &mut Vec<u8>, kind: Kind, values: &[i64]) -> Result<(), AllocError>
-    ensures { OnOk result (out.new.items ≡ out.old.items ++ flat_map (value_bytes kind) values.now) }
+    ensures { OnOk result (out.new.items ≡ out.old.items ++ values_bytes kind values.now) }
 {
     for value in values {
         push_value(out, kind, *value)?;
@@ -83,7 +83,7 @@ fn runs(alloc: Global, values: &[i64]) -> Result<Vec<(i64, u32)>, AllocError>
 }
 
 fn push_runs(out: &mut Vec<u8>, kind: Kind, runs: &[(i64, u32)]) -> Result<(), AllocError>
-    ensures { OnOk result (out.new.items ≡ out.old.items ++ flat_map (run_bytes (value_bytes kind) int_cmp) runs.now) }
+    ensures { OnOk result (out.new.items ≡ out.old.items ++ runs_bytes kind runs.now) }
 {
     for run in runs {
         push_value(out, kind, run.0)?;

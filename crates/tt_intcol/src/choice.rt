@@ -6,7 +6,7 @@ ghost use Rattle.std.specs.Int.{int_min, w64, cast_unsigned};
 ghost use Rattle.tt_value.specs.columns.Body.{runs_of, distinct, index_in};
 ghost use Rattle.tt_value.specs.columns.Packing.{bytes_for, width_of};
 ghost use Rattle.tt_intcol.specs.IntNumber.{number_in};
-ghost use Rattle.tt_intcol.specs.IntBody.{value_size as size_of, value_bytes, body, code, encoding_of, least_of, height, greatest_of};
+ghost use Rattle.tt_intcol.specs.IntBody.{heights_size, has_shorter_dictionary, IsBestBesideDictionary, is_encoding_of, value_size as size_of, value_bytes, body, code, encoding_of, least_of, height, greatest_of};
 
 use crate::encoding::Encoding;
 use crate::reading::packed_size;
@@ -103,7 +103,7 @@ fn plain_length(size: u128, values: &[i64]) -> u128
 
 /// How many bytes the differences to the least value take.
 fn heights_length(values: &[i64]) -> u128
-    ensures value { result ≡ bytes_for (length values.now * width_of (greatest_of (map (height (least_of values.now)) values.now))) }
+    ensures value { result ≡ heights_size values.now }
     ensures few { result ≤ 64 * 2 ^ 64 }
 {
     let width = packing::width_of(greatest_height(least(values), values));
@@ -175,7 +175,7 @@ fn dictionary_is_shorter(
     bytes: u128,
     values: &[i64],
 ) -> Result<bool, AllocError>
-    ensures { IfOk result (λ shorter. shorter ≡ nat_lt (length (body kind values.now Encoding.Dictionary)) bytes) }
+    ensures { IfOk result (λ shorter. shorter ≡ has_shorter_dictionary kind values.now bytes) }
 {
     let size = value_size(kind) as u128;
     let few = number_count(alloc, size, bytes, values)?;
@@ -190,7 +190,7 @@ fn dictionary_is_shorter(
 /// frame is.
 fn without_dictionary(kind: Kind, values: &[i64], frame: u128) -> Length
     requires { frame ≡ length (body kind values.now Encoding.Frame) }
-    ensures shortest { (if nat_lt (length (body kind values.now Encoding.Dictionary)) result.bytes then Encoding.Dictionary else result.encoding) ≡ encoding_of kind values.now }
+    ensures shortest { IsBestBesideDictionary kind values.now result.bytes result.encoding }
     ensures other { result.encoding ≢ Encoding.Dictionary }
 {
     let size = value_size(kind) as u128;
@@ -251,7 +251,7 @@ pub fn is_shortest(
     values: &[i64],
 ) -> Result<bool, AllocError>
     requires { bytes ≡ length (body kind values.now encoding) }
-    ensures { IfOk result (λ shortest. shortest ≡ (code (encoding_of kind values.now) == code encoding)) }
+    ensures { IfOk result (λ shortest. shortest ≡ is_encoding_of kind values.now encoding) }
 {
     let frame = match encoding {
         Encoding::Frame => bytes as u128,

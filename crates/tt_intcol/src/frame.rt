@@ -5,7 +5,8 @@ ghost use Rattle.std.specs.List.{list_any, list_all};
 ghost use Rattle.std.specs.Int.RustNames.{int_le};
 ghost use Rattle.tt_value.specs.columns.Packing.{bytes_for, width_of};
 ghost use Rattle.tt_intcol.specs.IntBody.{greatest_of};
-ghost use Rattle.tt_intcol.specs.IntReading.{GivesPart, frame_at, top_of as top_value, is_within, is_frame};
+ghost use Rattle.tt_value.specs.columns.Steps.{SomeWhere};
+ghost use Rattle.tt_intcol.specs.IntReading.{packed_fault, GivesList, frame_at, top_of as top_value, is_within, is_frame};
 
 use crate::parts::{LAST_DAY, PartError, bad, place, read_byte, read_value};
 use crate::reading::{packed_size, read_packed};
@@ -40,7 +41,7 @@ pub fn greatest(numbers: &[u64]) -> u64
 
 /// The value so far above another; none past the greatest of the kind.
 fn raise(kind: Kind, low: i64, number: u64) -> Option<i64>
-    ensures { MatchOption result (is_within kind low number ≡ false) (λ v. (is_within kind low number ≡ true) × (v ≡ low +ℤ pos number)) }
+    ensures { SomeWhere (is_within kind low number) (λ v. v) (low +ℤ pos number) result }
 {
     let value = low.checked_add_unsigned(number)?;
     if value > top_of(kind) {
@@ -93,7 +94,7 @@ fn frame_values(
 
 /// The fault of packed numbers that are wider than any difference.
 fn too_wide(end: u64, width: u8, count: usize, bytes: &[u8]) -> PartError
-    ensures { result ≡ PartError.At (if nat_lt (length bytes.now) (bytes_for (count * width)) then end else end - length bytes.now) }
+    ensures { result ≡ PartError.At (packed_fault end width count bytes.now) }
 {
     if (bytes.len() as u128) < packed_size(count, u32::from(width)) {
         bad(end)
@@ -111,7 +112,7 @@ pub fn read_frame(
     count: usize,
     bytes: &[u8],
 ) -> Result<(Vec<i64>, &[u8]), PartError>
-    ensures { GivesPart (λ x. (x.0.items, x.1.now)) result (frame_at kind end count bytes.now) }
+    ensures { GivesList result (frame_at kind end count bytes.now) }
 {
     let (low, rest) = read_value(kind, end, bytes)?;
     let (width, rest) = read_byte(end, rest)?;

@@ -3,7 +3,7 @@
 ghost use Rattle.std.specs.Prelude.{◌≡◌, ◌+◌, ◌-◌, ◌^◌, ◌<◌, ◌≤◌, length, All, Ok, Err};
 ghost use Rattle.std.specs.Int.{w8, w32, w64};
 ghost use Rattle.tt_value.specs.columns.Reading.{number_at, packed_at, count_at};
-ghost use Rattle.tt_intcol.specs.IntReading.{GivesPart, value_at, int_at, date_at, is_day as day_test};
+ghost use Rattle.tt_intcol.specs.IntReading.{GivesOne, value_at, int_at, date_at, is_day as day_test};
 ghost use Rattle.tt_intcol.specs.declared.parts.PartError.TheVariants as part_errors;
 
 use std::alloc::{AllocError, AllocFailed, Global};
@@ -69,7 +69,7 @@ pub fn bad(place: u64) -> PartError
 
 /// A byte, and what stands behind it. Where there is none the fault is at `end`.
 pub fn read_byte(end: u64, bytes: &[u8]) -> Result<(u8, &[u8]), PartError>
-    ensures { GivesPart (λ x. (x.0, x.1.now)) result (number_at w8 end bytes.now) }
+    ensures { GivesOne result (number_at w8 end bytes.now) }
 {
     match bytes.split_first() {
         Some((first, rest)) => Ok((*first, rest)),
@@ -80,7 +80,7 @@ pub fn read_byte(end: u64, bytes: &[u8]) -> Result<(u8, &[u8]), PartError>
 /// Four bytes, the least significant first, and what stands behind them. Where there are fewer the fault is at
 /// `end`.
 pub fn read_u32(end: u64, bytes: &[u8]) -> Result<(u32, &[u8]), PartError>
-    ensures { GivesPart (λ x. (x.0, x.1.now)) result (number_at w32 end bytes.now) }
+    ensures { GivesOne result (number_at w32 end bytes.now) }
 {
     if bytes.len() < 4 {
         return Err(bad(end));
@@ -92,7 +92,7 @@ pub fn read_u32(end: u64, bytes: &[u8]) -> Result<(u32, &[u8]), PartError>
 
 /// Eight bytes in the same way.
 pub fn read_u64(end: u64, bytes: &[u8]) -> Result<(u64, &[u8]), PartError>
-    ensures { GivesPart (λ x. (x.0, x.1.now)) result (number_at w64 end bytes.now) }
+    ensures { GivesOne result (number_at w64 end bytes.now) }
 {
     if bytes.len() < 8 {
         return Err(bad(end));
@@ -113,7 +113,7 @@ pub fn is_day(number: i64) -> bool
 
 #[tactic(auto, unfolding(crate::specs::IntReading::int_at))]
 fn read_int(end: u64, bytes: &[u8]) -> Result<(i64, &[u8]), PartError>
-    ensures { GivesPart (λ x. (x.0, x.1.now)) result (int_at end bytes.now) }
+    ensures { GivesOne result (int_at end bytes.now) }
 {
     let (number, rest) = read_u64(end, bytes)?;
     Ok((number.cast_signed(), rest))
@@ -121,7 +121,7 @@ fn read_int(end: u64, bytes: &[u8]) -> Result<(i64, &[u8]), PartError>
 
 #[tactic(auto, unfolding(crate::specs::IntReading::date_at))]
 fn read_date(end: u64, bytes: &[u8]) -> Result<(i64, &[u8]), PartError>
-    ensures { GivesPart (λ x. (x.0, x.1.now)) result (date_at end bytes.now) }
+    ensures { GivesOne result (date_at end bytes.now) }
 {
     let (number, rest) = read_u32(end, bytes)?;
     let day = i64::from(number.cast_signed());
@@ -133,7 +133,7 @@ fn read_date(end: u64, bytes: &[u8]) -> Result<(i64, &[u8]), PartError>
 
 /// A value of the kind.
 pub fn read_value(kind: Kind, end: u64, bytes: &[u8]) -> Result<(i64, &[u8]), PartError>
-    ensures { GivesPart (λ x. (x.0, x.1.now)) result (value_at kind end bytes.now) }
+    ensures { GivesOne result (value_at kind end bytes.now) }
 {
     match kind {
         Kind::Date => read_date(end, bytes),
@@ -144,7 +144,7 @@ pub fn read_value(kind: Kind, end: u64, bytes: &[u8]) -> Result<(i64, &[u8]), Pa
 /// A number of runs or of distinct values.
 #[tactic(auto, unfolding(tt_value::specs::columns::Reading::count_at))]
 pub fn read_count(end: u64, most: usize, bytes: &[u8]) -> Result<(u32, &[u8]), PartError>
-    ensures { GivesPart (λ x. (x.0, x.1.now)) result (count_at end most bytes.now) }
+    ensures { GivesOne result (count_at end most bytes.now) }
 {
     let (count, rest) = read_u32(end, bytes)?;
     if count as usize > most || (count == 0 && most != 0) {

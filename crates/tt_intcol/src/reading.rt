@@ -7,7 +7,8 @@ ghost use Rattle.std.specs.List.{list_all};
 ghost use Rattle.std.specs.Option.{option_map};
 ghost use Rattle.tt_value.specs.columns.Packing.{bytes_for};
 ghost use Rattle.tt_value.specs.columns.Reading.{is_new, is_next, uses_each, values_of, looked_up, dictionary_values_at, packed_at, values_at, run_at, runs_at, run_values_at, entry_at, entries_at};
-ghost use Rattle.tt_intcol.specs.IntReading.{GivesPart, value_at};
+ghost use Rattle.tt_value.specs.columns.Steps.{HasItems};
+ghost use Rattle.tt_intcol.specs.IntReading.{GivesOne, GivesList, GivesWhole, value_at};
 
 use crate::parts::{PartError, bad, place, read_count, read_u32, read_value};
 use std::alloc::{AllocError, Global};
@@ -31,7 +32,7 @@ pub fn read_packed(
     bytes: &[u8],
 ) -> Result<(Vec<u64>, &[u8]), PartError>
     requires { width ≤ 64 }
-    ensures { GivesPart (λ x. (x.0.items, x.1.now)) result (packed_at end width count bytes.now) }
+    ensures { GivesList result (packed_at end width count bytes.now) }
 {
     let size = packed_size(count, width);
     if (bytes.len() as u128) < size {
@@ -52,7 +53,7 @@ pub fn read_values(
     count: usize,
     bytes: &[u8],
 ) -> Result<(Vec<i64>, &[u8]), PartError>
-    ensures { GivesPart (λ x. (x.0.items, x.1.now)) result (values_at (value_at kind) int_cmp end count bytes.now) }
+    ensures { GivesList result (values_at (value_at kind) int_cmp end count bytes.now) }
 {
     let mut values = Vec::with_capacity(alloc, count.min(bytes.len()))?;
     let mut rest = bytes;
@@ -80,7 +81,7 @@ fn read_run(
     before: Option<i64>,
     bytes: &[u8],
 ) -> Result<((i64, u32), &[u8]), PartError>
-    ensures found { GivesPart (λ x. (x.0, x.1.now)) result (run_at (value_at kind) int_cmp end later left before bytes.now) }
+    ensures run { GivesOne result (run_at (value_at kind) int_cmp end later left before bytes.now) }
     ensures within { IfOk result (λ x. x.0.1 ≤ left) }
 {
     let (value, rest) = read_value(kind, end, bytes)?;
@@ -113,7 +114,7 @@ fn read_runs(
     most: usize,
     bytes: &[u8],
 ) -> Result<(Vec<i64>, &[u8]), PartError>
-    ensures { GivesPart (λ x. (x.0.items, x.1.now)) result (runs_at (value_at kind) int_cmp end count most None bytes.now) }
+    ensures { GivesList result (runs_at (value_at kind) int_cmp end count most None bytes.now) }
 {
     let mut values = Vec::with_capacity(alloc, most)?;
     let mut rest = bytes;
@@ -138,7 +139,7 @@ pub fn read_run_values(
     most: usize,
     bytes: &[u8],
 ) -> Result<(Vec<i64>, &[u8]), PartError>
-    ensures { GivesPart (λ x. (x.0.items, x.1.now)) result (run_values_at (value_at kind) int_cmp end most bytes.now) }
+    ensures { GivesList result (run_values_at (value_at kind) int_cmp end most bytes.now) }
 {
     let (count, rest) = read_count(end, most, bytes)?;
     read_runs(alloc, kind, end, count, most, rest)
@@ -161,7 +162,7 @@ fn read_entry(
     before: Option<i64>,
     bytes: &[u8],
 ) -> Result<(i64, &[u8]), PartError>
-    ensures { GivesPart (λ x. (x.0, x.1.now)) result (entry_at (value_at kind) int_cmp end before bytes.now) }
+    ensures { GivesOne result (entry_at (value_at kind) int_cmp end before bytes.now) }
 {
     let (value, rest) = read_value(kind, end, bytes)?;
     if !is_below(before, value) {
@@ -178,7 +179,7 @@ pub fn read_entries(
     count: u32,
     bytes: &[u8],
 ) -> Result<(Vec<i64>, &[u8]), PartError>
-    ensures { GivesPart (λ x. (x.0.items, x.1.now)) result (entries_at (value_at kind) int_cmp end count None bytes.now) }
+    ensures { GivesList result (entries_at (value_at kind) int_cmp end count None bytes.now) }
 {
     let mut values = Vec::with_capacity(alloc, (count as usize).min(bytes.len()))?;
     let mut rest = bytes;
@@ -218,7 +219,7 @@ fn values_at_indexes(
     entries: &[i64],
     indexes: &[u64],
 ) -> Result<Option<Vec<i64>>, AllocError>
-    ensures { IfOk result (λ found. option_map (λ v. v.items) found ≡ values_of entries.now indexes.now) }
+    ensures { IfOk result (λ found. HasItems found (values_of entries.now indexes.now)) }
 {
     let mut values = Vec::with_capacity(alloc, indexes.len())?;
     for index in indexes {
@@ -238,7 +239,7 @@ fn look_up(
     entries: &[i64],
     indexes: &[u64],
 ) -> Result<Vec<i64>, PartError>
-    ensures { GivesPart (λ v. v.items) result (looked_up place entries.now indexes.now) }
+    ensures { GivesWhole result (looked_up place entries.now indexes.now) }
 {
     match values_at_indexes(alloc, entries, indexes)? {
         None => Err(bad(place)),
@@ -260,7 +261,7 @@ pub fn read_dictionary_values(
     most: usize,
     bytes: &[u8],
 ) -> Result<(Vec<i64>, &[u8]), PartError>
-    ensures { GivesPart (λ x. (x.0.items, x.1.now)) result (dictionary_values_at (value_at kind) int_cmp end most bytes.now) }
+    ensures { GivesList result (dictionary_values_at (value_at kind) int_cmp end most bytes.now) }
 {
     let (count, rest) = read_count(end, most, bytes)?;
     let (entries, rest) = read_entries(alloc, kind, end, count, rest)?;

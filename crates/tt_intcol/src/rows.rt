@@ -6,7 +6,8 @@ ghost use Rattle.tt_value.specs.columns.Reading.{flags_at, has_flag, present_cou
 ghost use Rattle.std.specs.List.{AllByRecursion};
 ghost use Rattle.tt_value.specs.columns.Body.{present};
 ghost use Rattle.tt_intcol.specs.IntBody.{body, encoding_of, column_of, IsValue};
-ghost use Rattle.tt_intcol.specs.IntReading.{Gives, GivesPart, encoding_at, body_at, is_empty_frame as empty_frame_test, whole_body, values_in, column_with, rows_of};
+ghost use Rattle.tt_value.specs.columns.Steps.{IsNextRow};
+ghost use Rattle.tt_intcol.specs.IntReading.{Gives, GivesList, GivesWhole, encoding_at, body_at, is_empty_frame as empty_frame_test, whole_body, values_in, rows_in, IfColumnOf, rows_of};
 
 use crate::choice;
 use crate::column::{DecodeError, IntColumn};
@@ -45,7 +46,7 @@ fn has_flag(flags: &[u64]) -> bool
 /// The flags of a bitmap: 1 for NULL.
 #[tactic(auto, unfolding(tt_value::specs::columns::Reading::flags_at))]
 fn read_flags(alloc: Global, rows: u32, nulls: bool, bitmap: &[u8]) -> Result<Vec<u64>, PartError>
-    ensures { GivesPart (λ v. v.items) result (flags_at rows nulls bitmap.now) }
+    ensures { GivesWhole result (flags_at rows nulls bitmap.now) }
 {
     if !nulls {
         if !bitmap.is_empty() {
@@ -72,7 +73,7 @@ fn count_present(flags: &[u64]) -> usize
 
 /// The row of a flag, and the values of the rows behind it.
 fn next_row(flag: u64, values: &[i64]) -> (Option<i64>, &[i64])
-    ensures { (flags : List ℕ) → spread (flag ∷ flags) values.now ≡ result.0 ∷ spread flags result.1.now }
+    ensures { IsNextRow flag values.now result.0 result.1.now }
 {
     match values.split_first() {
         None => (None, values),
@@ -118,7 +119,7 @@ fn read_body(
     count: usize,
     bytes: &[u8],
 ) -> Result<(Vec<i64>, &[u8]), PartError>
-    ensures { GivesPart (λ x. (x.0.items, x.1.now)) result (body_at kind encoding end count bytes.now) }
+    ensures { GivesList result (body_at kind encoding end count bytes.now) }
 {
     match encoding {
         Encoding::Plain => read_values(alloc, kind, end, count, bytes),
@@ -139,7 +140,7 @@ fn read_whole(
     bytes: &[u8],
 ) -> Result<Vec<i64>, PartError>
     requires { All (λ byte. byte < 256) bytes.now }
-    ensures values { GivesPart (λ v. v.items) result (whole_body kind encoding end count bytes.now) }
+    ensures values { GivesWhole result (whole_body kind encoding end count bytes.now) }
     ensures length { IfOk result (λ v. length bytes.now ≡ length (body kind v.items encoding)) }
 {
     let (values, rest) = read_body(alloc, kind, encoding, end, count, bytes)?;
@@ -183,7 +184,7 @@ pub fn decode_parts(
     bitmap: &[u8],
     body: &[u8],
 ) -> Result<Vec<Option<i64>>, DecodeError>
-    ensures { Gives (λ v. v.items) result (rows_of kind rows (column_with encoding nulls bitmap.now body.now)) }
+    ensures { Gives (λ v. v.items) result (rows_in kind rows encoding nulls bitmap.now body.now) }
 {
     let encoding = read_encoding(encoding)?;
     are_bytes(body);
@@ -203,7 +204,7 @@ pub fn decode(
 ) -> Result<Vec<Option<i64>>, DecodeError>
     requires { kind ≢ Kind.Varchar }
     // The column of some rows is read as these rows.
-    ensures again { (vs : List (Option ℤ)) → AllByRecursion (IsValue kind) (present vs) → length vs ≡ rows → column.now ≡ column_of kind vs → Gives (λ v. v.items) result (Ok vs) }
+    ensures again { IfColumnOf kind rows column.now (λ vs. Gives (λ v. v.items) result (Ok vs)) }
     // Each column that is read is the column of the rows that it gives: so many rows, of the kind.
     ensures only { IfOk result (λ v. column.now ≡ column_of kind v.items) }
     ensures count { IfOk result (λ v. length v.items ≡ rows) }

@@ -12,13 +12,13 @@ use Rattle.tt_intcol.proofs.reading.read_runs.Goals as goal
 pub returns-in_err-run : goal.returns-in_err-run
 returns-in_err-run c =
     let p = err_from_is_err_and c.from_residual-in_err-run.result c.from_residual-in_err-run.ensures.1 in
-    rw (p.1, p.2) (passes_on c.in_err-run.field-0.0 _ _ c.in_err-run.ensures.found (λ place e. runs_fault (value_at c.args.kind) int_cmp c.args.end c.loop-turn.values.items c.args.count c.loop-turn.turn c.loop-turn.left c.loop-turn.before c.loop-turn.rest.now place _ c.loop-turn-test.true e c.loop-turn.invariant))
+    rw (p.1, p.2) (passes_on c.in_err-run.field-0.0 _ _ c.in_err-run.ensures.run (λ place e. runs_fault (value_at c.args.kind) int_cmp c.args.end c.loop-turn.values.items c.args.count c.loop-turn.turn c.loop-turn.left c.loop-turn.before c.loop-turn.rest.now place _ c.loop-turn-test.true e c.loop-turn.invariant))
 
 pub loop-turn-preserved : goal.loop-turn-preserved
 loop-turn-preserved c =
     let fits : FitsSigned w64 c.in_ok-run.run'.0 = search rules in
     let same = to_z-of_z w64 c.in_ok-run.run'.0 fits in
-    rw (c.in_ok-push_run.ensures, same) (runs_more (value_at c.args.kind) int_cmp c.args.end c.loop-turn.values.items c.args.count c.loop-turn.turn c.loop-turn.left c.loop-turn.before c.loop-turn.rest.now c.in_ok-run.run' c.in_ok-run.after.now _ c.loop-turn-test.true c.in_ok-run.ensures.found c.loop-turn.invariant)
+    rw (c.in_ok-push_run.ensures, same) (runs_more (value_at c.args.kind) int_cmp c.args.end c.loop-turn.values.items c.args.count c.loop-turn.turn c.loop-turn.left c.loop-turn.before c.loop-turn.rest.now c.in_ok-run.run' c.in_ok-run.after.now _ c.loop-turn-test.true c.in_ok-run.ensures.run c.loop-turn.invariant)
 
 pub returns : goal.returns
 returns c = runs_done (value_at c.args.kind) int_cmp c.args.end c.loop-turn.values.items c.args.count c.loop-turn.turn c.loop-turn.left c.loop-turn.before c.loop-turn.rest.now _ c.loop-turn-test.false c.loop-turn.invariant
