@@ -10,7 +10,8 @@ use tt_value::{Row, Value};
 
 /// One column of integers: 2, 1, 2.
 const INTS: [u8; 31] = [
-    84, 84, 80, 49, 3, 0, 0, 0, 1, 0, 1, 1, 0, 10, 0, 0, 0, 0, 0, 0, 0, 1, 0, 0, 0, 0, 0, 0, 0, 1, 5,
+    84, 84, 80, 49, 3, 0, 0, 0, 1, 0, 1, 1, 0, 10, 0, 0, 0, 0, 0, 0, 0, 1, 0, 0, 0, 0, 0, 0, 0, 1,
+    5,
 ];
 
 /// One column of texts: a, NULL.
@@ -151,8 +152,8 @@ fn the_encoding_is_judged_last(rt: HostRuntime) -> Result<(), Fail> {
     let alloc = rt.alloc();
     // 0, 1, 2 as they are, where a frame is shorter: the byte of the encoding; with a byte missing: the end
     let plain: [u8; 45] = [
-        84, 84, 80, 49, 3, 0, 0, 0, 1, 0, 1, 0, 0, 24, 0, 0, 0, 0, 0, 0, 0, 0, 0, 0, 0, 0, 0, 0, 0, 1,
-        0, 0, 0, 0, 0, 0, 0, 2, 0, 0, 0, 0, 0, 0, 0,
+        84, 84, 80, 49, 3, 0, 0, 0, 1, 0, 1, 0, 0, 24, 0, 0, 0, 0, 0, 0, 0, 0, 0, 0, 0, 0, 0, 0, 0,
+        1, 0, 0, 0, 0, 0, 0, 0, 2, 0, 0, 0, 0, 0, 0, 0,
     ];
     assert_eq!(rt; place_of(alloc, &plain), Some(11));
     assert_eq!(rt; place_of(alloc, &plain[..44]), Some(44));
