@@ -2,3 +2,4 @@ pub mod History
 pub mod Views
 pub mod Rule
 pub mod Passes
+pub mod Crowds

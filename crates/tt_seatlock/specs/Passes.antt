@@ -1,5 +1,5 @@
 -- What clauses read of a lock, a pass and a held book.
-use Rattle.std.specs.Prelude.{◌≡◌, ℕ, ◌+◌, ◌<◌, List, [], ◌∷◌, ◌++◌, true, Some, None}
+use Rattle.std.specs.Prelude.{◌≡◌, ℕ, ◌+◌, ◌<◌, List, [], ◌∷◌, ◌++◌, true, Some, None, ◌≤◌, Contains}
 use Rattle.std.specs.Borrow.{Lends, MutBor, Fml}
 use mir.Syntax.{named}
 use denote.RattleType.{RattleType}
@@ -9,7 +9,7 @@ use Rattle.tt_seatlock.specs.declared.pass.Pass.{Pass}
 use Rattle.tt_seatlock.specs.declared.lock.SeatLock.{SeatLock}
 use Rattle.tt_seatlock.specs.declared.held.Held.{Held}
 use Rattle.tt_seatlock.specs.contracts.held.Held.{the_row}
-use Rattle.tt_seatlock.specs.History.{made_by, longer}
+use Rattle.tt_seatlock.specs.History.{made_by, AddsOnly, longer}
 use Rattle.tt_seatlock.specs.Rule.{IsKept}
 
 -- What a pass tells: its number, the longest history that it has seen, its own entries in it, how many numbers were made and which are kept.
@@ -53,6 +53,18 @@ module _ {E : Type 0} where
   abbrev pub KeepsAll : Known E → Type 0
   KeepsAll k = KeepsBelow k k.made
 
+  -- the pass's own entries are those of its number in this history
+  abbrev pub HasOwn : (E → ℕ) → Known E → List E → Type 0
+  HasOwn number k log = made_by number k.number log ≡ k.own
+
+  -- the entries that are kept of a number are those of it in this history
+  abbrev pub HasKept : (E → ℕ) → Known E → List E → Type 0
+  HasKept number k log = (n : ℕ) (entries : List E) → Contains k.kept (n, entries) → made_by number n log ≡ entries
+
+  -- of a number that was not made there is no entry
+  abbrev pub HasNoOther : (E → ℕ) → Known E → List E → Type 0
+  HasNoOther number k log = (n : ℕ) → k.made ≤ n → made_by number n log ≡ []
+
 abbrev pub known_of : {E G : Type 0} → View E G → Known E
 known_of v = record { number = v.number; seen = v.seen; own = v.mine; made = v.made; kept = v.kept }
 
@@ -78,6 +90,18 @@ module _ {B E G : Type 0} where
 
   abbrev pub lock_of : Held B E G → SeatLock B E G
   lock_of h = h.lock.now
+
+  -- the book has the ground of the lock's first one
+  abbrev pub HasSameGround : (B → G) → Held B E G → Type 0
+  HasSameGround ground_of h = ground_of (book_of h) ≡ ground_of (first_book (lock_of h))
+
+  -- the history has only grown, by entries of the pass's number
+  abbrev pub AddsItsOwn : (E → ℕ) → (B → List E) → Held B E G → Type 0
+  AddsItsOwn number entries h = AddsOnly number (holder_of h).number (base_of h) (entries (book_of h))
+
+  -- what the pass tells that leaves the book now
+  abbrev pub known_behind : (E → ℕ) → (B → List E) → Held B E G → Known E
+  known_behind number entries h = having_seen number (holder_of h) (entries (book_of h))
 
   -- the pass is inside the lock, in its turn, and has the book
   pub record IsInside (ground_of : B → G) (h : Held B E G) : Type 0 where

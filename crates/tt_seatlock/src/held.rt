@@ -31,16 +31,15 @@ impl<B: Book> Held<'_, B> {
 
 impl<B: Book> SeatLock<B> {
     ghost use Rattle.std.specs.Prelude.{◌≡◌};
-    ghost use Rattle.tt_seatlock.specs.History.{AddsOnly};
-    ghost use Rattle.tt_seatlock.specs.Passes.{known, having_seen, IsPassOf, IsInside, first_book, book_of, base_of, holder_of, lock_of};
+    ghost use Rattle.tt_seatlock.specs.Passes.{known, known_behind, IsPassOf, IsInside, HasSameGround, AddsItsOwn, lock_of};
 
     /// Puts the book back. The history may only have grown, by entries of the pass's number.
     pub fn leave(held: Held<'_, B>) -> Pass<B>
         requires inside { IsInside B.ground_of held }
-        requires same_ground { B.ground_of (book_of held) ≡ B.ground_of (first_book (lock_of held)) }
-        requires adds { AddsOnly B.number (holder_of held).number (base_of held) (B.entries (book_of held)) }
+        requires same_ground { HasSameGround B.ground_of held }
+        requires adds { AddsItsOwn B.number B.entries held }
         ensures lock { IsPassOf (lock_of held.entry) result }
-        ensures pass { known result ≡ having_seen B.number (holder_of held.entry) (B.entries (book_of held.entry)) }
+        ensures pass { known result ≡ known_behind B.number B.entries held.entry }
     {
         let Held {
             lock,

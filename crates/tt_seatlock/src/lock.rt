@@ -25,7 +25,7 @@ impl<B: Book> SeatLock<B> {
     ghost use Rattle.std.specs.Prelude.{◌≡◌, ℕ, ◌<◌, ◌≤◌, [], Contains, IfOk};
     ghost use mathlib.Core.List.{IsPrefix};
     ghost use Rattle.tt_seatlock.specs.History.{made_by};
-    ghost use Rattle.tt_seatlock.specs.Passes.{known, nothing_seen, with_one_more, next_of, with_joined, KeepsAll, IsPassOf, IsInside, first_book, most_passes, book_of, base_of, holder_of, lock_of};
+    ghost use Rattle.tt_seatlock.specs.Passes.{known, HasOwn, HasKept, HasNoOther, nothing_seen, with_one_more, next_of, with_joined, KeepsAll, IsPassOf, IsInside, first_book, most_passes, book_of, base_of, holder_of, lock_of};
 
     /// A lock over an empty book, for at most `passes` numbers, and the pass of number 0. Without memory the book is dropped.
     pub fn new(alloc: Global, book: B, passes: u32) -> Result<(SeatLock<B>, Pass<B>), AllocError>
@@ -68,7 +68,7 @@ impl<B: Book> SeatLock<B> {
         ensures pass { holder_of result ≡ known pass }
         ensures base { base_of result ≡ B.entries (book_of result) }
         ensures goes_on { IsPrefix (known pass).seen (B.entries (book_of result)) }
-        ensures own { made_by B.number (known pass).number (B.entries (book_of result)) ≡ (known pass).own }
+        ensures own { HasOwn B.number (known pass) (B.entries (book_of result)) }
         ensures same_ground { B.ground_of (book_of result) ≡ B.ground_of (first_book self.now) }
     {
         let Pass { mut seat, number } = pass;
@@ -118,8 +118,8 @@ impl<B: Book> SeatLock<B> {
         ensures same_ground { B.ground_of result ≡ B.ground_of (first_book self) }
         ensures goes_on { IsPrefix (known last).seen (B.entries result) }
         ensures own { made_by B.number 0 (B.entries result) ≡ (known last).own }
-        ensures kept { (n : ℕ) (entries : _) → Contains (known last).kept (n, entries) → made_by B.number n (B.entries result) ≡ entries }
-        ensures no_other { (n : ℕ) → (known last).made ≤ n → made_by B.number n (B.entries result) ≡ [] }
+        ensures kept { HasKept B.number (known last) (B.entries result) }
+        ensures no_other { HasNoOther B.number (known last) (B.entries result) }
     {
         let SeatLock { table, passes: _ } = self;
         let Pass { seat, number: _ } = last;

@@ -1,8 +1,9 @@
 //! A book of notes, each with the number of its pass and a value, under threads.
 
-ghost use Rattle.std.specs.Prelude.{◌≡◌, ℕ, ◌+◌, ◌<◌, ◌^◌, [], ◌∷◌, ◌++◌, if◌then◌else◌, slice_index_or, vec_len, map, All, IfOk};
+ghost use Rattle.std.specs.Prelude.{◌≡◌, ◌+◌, ◌<◌, ◌^◌, [], ◌∷◌, ◌++◌, if◌then◌else◌, vec_len, All, IfOk};
 ghost use mathlib.Core.List.{IsPrefix};
 ghost use Rattle.tt_seatlock.specs.History.{made_by};
+ghost use Rattle.tt_seatlock.specs.Crowds.{having_made, IsFirstStill, AreNumbered, HaveNumbersOf, own_entries};
 ghost use Rattle.tt_seatlock.specs.Passes.{known, nothing_seen, IsPassOf, IsSamePass, most_passes};
 
 use crate::{Book, Pass, SeatLock};
@@ -139,10 +140,10 @@ fn make_passes(
     requires first { known first.old ≡ nothing_seen }
     requires room { count < most_passes lock.now }
     ensures lock { IsPassOf lock.now first.new }
-    ensures first { IfOk result (λ v. known first.new ≡ record nothing_seen { made = count + 1 }) }
+    ensures first { IfOk result (λ v. known first.new ≡ having_made (count + 1)) }
     ensures len { IfOk result (λ v. vec_len v ≡ count) }
     ensures all { IfOk result (λ v. All (IsPassOf lock.now) v.items) }
-    ensures numbers { IfOk result (λ v. (i : ℕ) (d : _) → i < vec_len v → (known (slice_index_or v.items i d)).number ≡ i + 1) }
+    ensures numbers { IfOk result AreNumbered }
 {
     let mut passes = Vec::new(alloc);
     for made in 0..count {
@@ -161,7 +162,7 @@ fn each<R: Threads + Wait + Sync>(
     requires { All (IsPassOf lock.now) passes.items }
     ensures len { IfOk result (λ v. vec_len v ≡ vec_len passes) }
     ensures all { IfOk result (λ v. All (IsPassOf lock.now) v.items) }
-    ensures numbers { IfOk result (λ v. (i : ℕ) (d : _) → i < vec_len v → (known (slice_index_or v.items i d)).number ≡ (known (slice_index_or passes.items i d)).number) }
+    ensures numbers { IfOk result (HaveNumbersOf passes) }
 {
     thread::map_vec(rt, passes, &|pass| add_notes(rt, lock, pass, count))
 }
@@ -173,8 +174,8 @@ fn gather(lock: &SeatLock<Notebook>, into: &mut Pass<Notebook>, passes: Vec<Pass
     requires all { All (IsPassOf lock.now) passes.items }
     requires numbers { All (λ p. 0 < (known p).number) passes.items }
     ensures lock { IsPassOf lock.now into.new }
-    ensures into { ((known into.new).number ≡ 0) × ((known into.new).made ≡ (known into.old).made) }
-    ensures kept { (known into.new).kept ≡ (known into.old).kept ++ map (λ p. ((known p).number, (known p).own)) passes.items }
+    ensures into { IsFirstStill (known into.old) (known into.new) }
+    ensures kept { (known into.new).kept ≡ (known into.old).kept ++ own_entries passes.items }
 {
     for pass in passes {
         lock.join(into, pass);
