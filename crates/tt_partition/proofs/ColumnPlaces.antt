@@ -20,10 +20,10 @@ use Rattle.tt_partition.proofs.TableLaws.{column_fits}
 abbrev spell : Kind × List Value → List ℕ
 spell c = column_bytes c.0 c.1
 
-none_before : (i : ℕ) → 0 + i ≡ i
+pub none_before : (i : ℕ) → 0 + i ≡ i
 none_before i = omega arith
 
-zip_at : (ks : List Kind) (a : ℕ) (f : ℕ → List Value) (i : ℕ) (kind : Kind) → slice_get ks i ≡ Some kind → slice_get (zip ks (map f (range_with_len a (length ks)))) i ≡ Some (kind, f (a + i))
+pub zip_at : (ks : List Kind) (a : ℕ) (f : ℕ → List Value) (i : ℕ) (kind : Kind) → slice_get ks i ≡ Some kind → slice_get (zip ks (map f (range_with_len a (length ks)))) i ≡ Some (kind, f (a + i))
 zip_at [] a f i kind e = absurd cc
 zip_at (k ∷ ks) a f zero kind e = let same : k ≡ kind = cc in let here : a + 0 ≡ a = omega arith in rw (same, here) refl
 zip_at (k ∷ ks) a f (suc i) kind e = let next : a + suc i ≡ a + 1 + i = omega arith in rw next (zip_at ks (a + 1) f i kind e)

@@ -122,11 +122,11 @@ table_taken bytes table fit e =
     let one = bound (columns_in bytes) (λ read. Ok (table_of read.0 read.1)) table e in
     subst (IsImage bytes) (same_ok (table_of one.0.0 one.0.1) table one.2) (columns_taken bytes one.0 fit one.1).0
 
-magic_again : (end : ℕ) (rest : List ℕ) → magic_at end (magic ++ rest) ≡ Ok rest
+pub magic_again : (end : ℕ) (rest : List ℕ) → magic_at end (magic ++ rest) ≡ Ok rest
 unfolding magic_at
 magic_again end rest = let t : ltb (suc (suc (suc (suc (length rest))))) 4 ≡ false = le-ltb (suc (suc (suc (suc (length rest))))) 4 (omega arith) in rw t refl
 
-row_count_again : (end n : ℕ) (rest : List ℕ) → 1 ≤ n → n ≤ 65536 → row_count_at end (to_le_bytes w32 n ++ rest) ≡ Ok (n, rest)
+pub row_count_again : (end n : ℕ) (rest : List ℕ) → 1 ≤ n → n ≤ 65536 → row_count_at end (to_le_bytes w32 n ++ rest) ≡ Ok (n, rest)
 unfolding row_count_at
 row_count_again end n rest some few = rw (word_again end n rest (omega arith), between_again 65536 n some few) refl
 
@@ -138,7 +138,7 @@ number_again w end n rest len back =
 half_again : (end n : ℕ) (rest : List ℕ) → n < 2 ^ 16 → number_at w16 end (to_le_bytes w16 n ++ rest) ≡ Ok (n, rest)
 half_again end n rest few = number_again w16 end n rest refl (from_le_bytes-to_le_bytes_2 n few)
 
-column_count_again : (end n : ℕ) (rest : List ℕ) → 1 ≤ n → n ≤ 32 → column_count_at end (to_le_bytes w16 n ++ rest) ≡ Ok (n, rest)
+pub column_count_again : (end n : ℕ) (rest : List ℕ) → 1 ≤ n → n ≤ 32 → column_count_at end (to_le_bytes w16 n ++ rest) ≡ Ok (n, rest)
 unfolding column_count_at
 column_count_again end n rest some few = rw (half_again end n rest (omega arith), between_again 32 n some few) refl
 

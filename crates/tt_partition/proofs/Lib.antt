@@ -7,3 +7,4 @@ pub mod ImageLaws
 pub mod Picks
 pub mod ColumnPlaces
 pub mod Cutting
+pub mod PickingLaws

@@ -130,7 +130,7 @@ table_again table all =
 abbrev pub IsColumn : ℕ → Kind × List Value → Type 0
 IsColumn n c = (length c.1 ≡ n) × AllByRecursion (IsOf c.0) c.1
 
-null_is_of : (kind : Kind) → IsOf kind Null
+pub null_is_of : (kind : Kind) → IsOf kind Null
 null_is_of kinds.Int = tt
 null_is_of kinds.Date = tt
 null_is_of kinds.Varchar = tt

@@ -1,12 +1,13 @@
 -- What a column of values is, as its kind and its values.
-use Rattle.std.specs.Prelude.{List, map, Option, Some, None}
+use Rattle.std.specs.Prelude.{◌≡◌, ℕ, List, map, slice_get, Option, Some, None}
 use Rattle.tt_value.specs.declared.value.Kind.{Kind}
 use Rattle.tt_value.specs.declared.value.Kind.TheVariants as kinds
 use Rattle.tt_value.specs.declared.value.Value.{Value}
 use Rattle.tt_partition.specs.declared.column.ColumnValues.{ColumnValues}
 use Rattle.tt_partition.specs.declared.column.ColumnValues.TheVariants.{Ints, Dates, Texts}
 use Rattle.std.specs.List.{AllByRecursion}
-use Rattle.tt_partition.specs.Table.{IsOf}
+use Rattle.tt_zone.specs.Zones.{column_at}
+use Rattle.tt_partition.specs.Table.{Table, IsOf}
 use Rattle.tt_partition.specs.ImageReading.{number_value, text_value}
 
 abbrev pub column_kind : ColumnValues → Kind
@@ -30,3 +31,8 @@ IsValues column = AllByRecursion (IsOf (column_kind column)) (column_values colu
 abbrev pub joined : {A : Type 0} → Option (Option A) → Option A
 joined None = None
 joined (Some o) = o
+
+-- the column at a place of a table: of its kind there, with the values of its rows
+pub record IsColumnAt (table : Table) (place : ℕ) (column : ColumnValues) : Type 0 where
+  pub kind : slice_get table.kinds place ≡ Some (column_kind column)
+  pub values : column_values column ≡ column_at place table.rows

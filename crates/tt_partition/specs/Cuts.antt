@@ -1,11 +1,11 @@
 -- Rows cut into tables of so many rows each, in their order; the last has as many as are left.
 use Rattle.std.specs.Prelude.{ℕ, ◌+◌, ◌-◌, ◌*◌, ◌/◌, List, length, map, take, drop}
-use Rattle.std.specs.List.{range_with_len, AllByRecursion}
+use Rattle.std.specs.List.{range_with_len}
 use Rattle.tt_value.specs.declared.value.Kind.{Kind}
 use Rattle.tt_value.specs.declared.value.Column.{Column}
 use Rattle.tt_value.specs.declared.value.Schema.{Schema}
 use Rattle.tt_value.specs.declared.value.Row.{Row}
-use Rattle.tt_partition.specs.Table.{Table, HasKinds}
+use Rattle.tt_partition.specs.Table.{Table}
 
 abbrev pub kinds_of : Schema → List Kind
 kinds_of schema = map (λ (column : Column). column.kind) schema.columns
@@ -20,7 +20,3 @@ cut_count cap rows = (length rows + (cap - 1)) / cap
 
 abbrev pub cut : List Kind → ℕ → List Row → List Table
 cut kinds cap rows = map (cut_at kinds cap rows) (range_with_len 0 (cut_count cap rows))
-
--- rows that have the kinds of a schema
-abbrev pub FitSchema : Schema → List Row → Type 0
-FitSchema schema rows = AllByRecursion (λ (row : Row). HasKinds (kinds_of schema) row.values) rows

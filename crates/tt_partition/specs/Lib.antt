@@ -5,3 +5,6 @@ pub mod Outcome
 pub mod ColumnView
 pub mod Sound
 pub mod Cuts
+pub mod Picking
+pub mod Validity
+pub mod Fits

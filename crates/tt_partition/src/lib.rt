@@ -6,8 +6,10 @@ mod error;
 mod head;
 mod numbers;
 mod partition;
+mod picking;
 mod reading;
 mod rows;
+mod values;
 mod writing;
 
 pub use column::ColumnValues;

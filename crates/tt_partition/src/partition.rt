@@ -1,15 +1,20 @@
 //! The partition: rows that never change, as an image of bytes with its zones.
 
-ghost use Rattle.std.specs.Prelude.{◌≡◌, ◌≤◌, ◌<◌, ◌^◌, length, IfOk, Ok};
-ghost use Rattle.std.specs.List.{AllByRecursion};
+ghost use Rattle.std.specs.Prelude.{◌≡◌, ◌≤◌, ◌<◌, ◌^◌, length, All, IfOk, Ok};
+ghost use Rattle.tt_partition.specs.ColumnView.{IsColumnAt};
+ghost use Rattle.std.specs.List.{AllByRecursion, AllZip};
 ghost use Rattle.tt_partition.specs.ImageReading.{table_at};
 ghost use Rattle.tt_partition.specs.Table.{IsPart};
-ghost use Rattle.tt_partition.specs.Cuts.{kinds_of, cut, FitSchema};
+ghost use Rattle.tt_partition.specs.Cuts.{kinds_of, cut};
+ghost use Rattle.tt_partition.specs.Fits.{FitSchema};
 ghost use Rattle.tt_partition.specs.Outcome.{Gives};
 
+use crate::column::ColumnValues;
 use crate::error::ImageError;
+use crate::picking::pick_column;
 use crate::reading::read_image;
 use crate::rows::{rows_of, zones_of};
+use crate::values::rows_are_valid;
 use crate::writing::image_of;
 use std::alloc::{AllocError, Global};
 use std::marker::Model;
@@ -72,6 +77,7 @@ impl Partition {
         requires rows { FitSchema schema.now rows.now }
         ensures { IfOk result (λ parts. parts.items ≡ cut (kinds_of schema.now) cap rows.now) }
     {
+        rows_are_valid(rows);
         let cap = cap as usize;
         let mut parts = Vec::new(alloc);
         let mut rest = rows;
@@ -106,6 +112,35 @@ impl Partition {
         ensures { result ≡ length self.now.rows }
     {
         self.rows
+    }
+
+    /// The column at a place, the first being 0. The values of the others are not looked at, and no text is copied.
+    pub fn column(&self, place: usize) -> Result<ColumnValues<'_>, AllocError>
+        requires { place < length self.now.kinds }
+        ensures { IfOk result (IsColumnAt self.now place) }
+    {
+        let alloc = *self.image.allocator();
+        let image = self.image.as_slice();
+        bytes_fit(image);
+        match pick_column(alloc, place, image) {
+            Ok(column) => Ok(column),
+            Err(ImageError::Memory) => Err(AllocError),
+            Err(ImageError::BadImage(_)) => unreachable!(),
+        }
+    }
+
+    /// The columns at these places, in the order of the places. The values of the others are not looked at.
+    pub fn columns(&self, places: &[usize]) -> Result<Vec<ColumnValues<'_>>, AllocError>
+        requires { All (λ place. place < length self.now.kinds) places.now }
+        ensures { IfOk result (λ v. AllZip (IsColumnAt self.now) places.now v.items) }
+    {
+        let alloc = *self.image.allocator();
+        let mut columns = Vec::with_capacity(alloc, places.len())?;
+        for place in places {
+            let column = self.column(*place)?;
+            columns.push(column)?;
+        }
+        Ok(columns)
     }
 
     /// The rows in order.

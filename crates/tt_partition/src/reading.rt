@@ -81,7 +81,7 @@ fn read_column_values(
 }
 
 /// What stands behind a column, from what stands behind its head.
-fn behind(rows: u32, head: Head, bytes: &[u8]) -> &[u8]
+pub fn behind(rows: u32, head: Head, bytes: &[u8]) -> &[u8]
     ensures { result.now ≡ bytes_behind rows head bytes.now }
 {
     let (_bitmap, rest) = split(bytes, bitmap_size(rows, head.nulls));
@@ -91,7 +91,7 @@ fn behind(rows: u32, head: Head, bytes: &[u8]) -> &[u8]
 
 /// A column of so many values, and what stands behind it.
 #[tactic(auto, unfolding(crate::specs::ImageReading::column_at))]
-fn read_column(
+pub fn read_column(
     alloc: Global,
     rows: u32,
     end: u64,

@@ -9,7 +9,7 @@ use Rattle.tt_partition.proofs.partition.Partition.build.Goals as goal
 
 pub build_one-requires : goal.build_one-requires
 build_one-requires c =
-    cut_is_part c.args.schema.now c.args.rows.now c.split_at.result.0.now c.loop-turn._turn c.args.cap c.requires.some_columns c.requires.few_columns c.requires.cap.0 c.requires.cap.1 c.requires.rows c.loop-turn-test.true
+    cut_is_part c.args.schema.now c.args.rows.now c.split_at.result.0.now c.loop-turn._turn c.args.cap c.requires.some_columns c.requires.few_columns c.requires.cap.0 c.requires.cap.1 c.requires.rows c.rows_are_valid.ensures c.loop-turn-test.true
     (front_is c.args.rows.now c.loop-turn.rest.now c.split_at.result.0.now c.loop-turn._turn c.args.cap c.loop-turn.invariant.1 (c.split_at.ensures.front ∙ ap (λ m. take m c.loop-turn.rest.now) c.min.ensures))
 
 pub loop-turn-preserved : goal.loop-turn-preserved
