@@ -8,3 +8,4 @@ pub mod Picks
 pub mod ColumnPlaces
 pub mod Cutting
 pub mod PickingLaws
+pub mod FittingLaws

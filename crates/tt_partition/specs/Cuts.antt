@@ -7,8 +7,11 @@ use Rattle.tt_value.specs.declared.value.Schema.{Schema}
 use Rattle.tt_value.specs.declared.value.Row.{Row}
 use Rattle.tt_partition.specs.Table.{Table}
 
+abbrev pub column_kinds : List Column → List Kind
+column_kinds columns = map (λ (column : Column). column.kind) columns
+
 abbrev pub kinds_of : Schema → List Kind
-kinds_of schema = map (λ (column : Column). column.kind) schema.columns
+kinds_of schema = column_kinds schema.columns
 
 -- the table at a place: the `cap` rows from there on, or those that are left
 abbrev pub cut_at : List Kind → ℕ → List Row → ℕ → Table

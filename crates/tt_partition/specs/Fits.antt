@@ -1,6 +1,6 @@
 -- Rows that fit a schema: one value for each column, NULL or of the column's kind. Which columns may have no NULL is not asked.
-use Rattle.std.specs.Prelude.{List, [], ◌∷◌}
-use Rattle.std.specs.List.{AllByRecursion}
+use Rattle.std.specs.Prelude.{List}
+use Rattle.std.specs.List.{AllByRecursion, AllZip}
 use Rattle.tt_value.specs.declared.value.Kind.{Kind}
 use Rattle.tt_value.specs.declared.value.Kind.TheVariants as kinds
 use Rattle.tt_value.specs.declared.value.Value.{Value}
@@ -20,9 +20,7 @@ FitsKind _ _ = ⊥
 
 -- one value for each kind, in order
 abbrev pub FitKinds : List Kind → List Value → Type 0
-FitKinds [] [] = Unit {0}
-FitKinds (kind ∷ kinds) (v ∷ vs) = FitsKind kind v × FitKinds kinds vs
-FitKinds _ _ = ⊥
+FitKinds kinds values = AllZip FitsKind kinds values
 
 abbrev pub FitSchema : Schema → List Row → Type 0
 FitSchema schema rows = AllByRecursion (λ (row : Row). FitKinds (kinds_of schema) row.values) rows

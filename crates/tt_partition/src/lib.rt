@@ -3,6 +3,7 @@
 
 mod column;
 mod error;
+mod fitting;
 mod head;
 mod numbers;
 mod partition;
@@ -14,4 +15,5 @@ mod writing;
 
 pub use column::ColumnValues;
 pub use error::{BadImage, ImageError};
+pub use fitting::fits;
 pub use partition::Partition;
