@@ -8,7 +8,8 @@ use Rattle.tt_value.specs.declared.value.Value.{Value}
 use Rattle.tt_value.specs.columns.Reading.{◌>>=◌}
 use Rattle.tt_value.proofs.columns.Accepted.{same_ok, bound}
 use Rattle.tt_partition.specs.declared.head.Head.{Head}
-use Rattle.tt_partition.specs.Table.{Table, columns_of, IsPart}
+use Rattle.tt_partition.specs.Table.{Table, columns_of, zones_of, IsPart}
+use Rattle.std.proofs.lemmas.List.FromFn.{length-map-range_with_len}
 use Rattle.tt_partition.specs.Image.{magic, column_bytes, columns_bytes, image_of}
 use Rattle.tt_partition.specs.ImageReading.{head_at, behind, column_values_at, column_at, table_at}
 use Rattle.tt_partition.specs.Sound.{table_in}
@@ -20,7 +21,7 @@ use Rattle.tt_partition.proofs.ImageLaws.{IsImage, table_taken, magic_again, row
 use Rattle.tt_partition.proofs.ColumnPlaces.{zip_at, none_before}
 use Rattle.tt_partition.specs.declared.column.ColumnValues.{ColumnValues}
 use Rattle.tt_partition.specs.ColumnView.{column_view, IsColumnAt}
-use Rattle.tt_zone.specs.Zones.{column_at as values_at_place}
+use Rattle.tt_zone.specs.Zones.{zone_of, column_at as values_at_place}
 use Rattle.tt_value.specs.declared.value.Kind.TheVariants as kinds
 use Rattle.std.proofs.lemmas.Option.{slice_get-get_or}
 
@@ -122,3 +123,7 @@ zip_more R xs ys i d y lt all r = let next : suc i ≡ i + 1 = omega arith in su
 -- the bytes of a partition are the image of its table
 pub kept_image : (image bytes : List ℕ) (table : Table) → bytes ≡ image → Fit 8 bytes → table_at image ≡ Ok (table_in image) → table_in image ≡ table → IsImage bytes table
 kept_image image bytes table same fit e is = subst (IsImage bytes) is (table_taken bytes (table_in image) fit (ap table_at same ∙ e))
+
+-- a zone for each column
+pub zone_count : (table : Table) → length (zones_of table) ≡ length table.kinds
+zone_count table = length-map-range_with_len (λ k. zone_of (values_at_place k table.rows)) 0 (length table.kinds)

@@ -114,6 +114,13 @@ impl Partition {
         self.rows
     }
 
+    /// How many columns there are. The image is not looked at.
+    pub fn column_count(&self) -> usize
+        ensures { result ≡ length self.now.kinds }
+    {
+        self.zones().len()
+    }
+
     /// The column at a place, the first being 0. The values of the others are not looked at, and no text is copied.
     pub fn column(&self, place: usize) -> Result<ColumnValues<'_>, AllocError>
         requires { place < length self.now.kinds }

@@ -1,5 +1,7 @@
 //! Partitions: images worked out by hand, and what is no image.
 
+mod building;
+
 ghost use Rattle.std.specs.Prelude.{◌≡◌};
 
 use std::alloc::Global;
@@ -64,9 +66,17 @@ fn each_cut_is_refused_at_its_end(rt: HostRuntime) -> Result<(), Fail> {
 }
 
 /// A changed image is refused, or is the image of other rows.
-fn is_refused_or_other(alloc: Global, rt: &impl Abort, bytes: &[u8]) -> Result<(), Fail> {
+fn is_refused_or_other(
+    alloc: Global,
+    rt: &impl Abort,
+    rows: &[Row],
+    bytes: &[u8],
+) -> Result<(), Fail> {
     match Partition::from_image(alloc, bytes) {
-        Ok(part) => assert_eq!(rt; part.image(), bytes),
+        Ok(part) => {
+            assert_eq!(rt; part.image(), bytes);
+            assert!(rt; part.rows()?.as_slice() != rows);
+        }
         Err(ImageError::BadImage(bad)) => assert!(rt; bad.place <= bytes.len() as u64),
         Err(ImageError::Memory) => assert!(rt; false),
     }
@@ -74,11 +84,13 @@ fn is_refused_or_other(alloc: Global, rt: &impl Abort, bytes: &[u8]) -> Result<(
 }
 
 fn changes(alloc: Global, rt: &impl Abort, bytes: &[u8]) -> Result<(), Fail> {
+    let part = Partition::from_image(alloc, bytes).ok().ok_or("refused")?;
+    let rows = part.rows()?;
     for at in 0..bytes.len() {
         for mask in [1, 2, 255] {
             let mut other = bytes.to_vec(alloc)?;
             other[at] ^= mask;
-            is_refused_or_other(alloc, rt, &other)?;
+            is_refused_or_other(alloc, rt, &rows, &other)?;
         }
     }
     Ok(())
