@@ -17,3 +17,4 @@ pub mod Turns
 pub mod Typing
 pub mod Ways
 pub mod WholeTables
+pub mod law

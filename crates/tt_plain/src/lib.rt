@@ -5,6 +5,7 @@ pub mod laws;
 pub mod plain;
 pub mod ranges;
 pub mod store;
+pub mod store_laws;
 pub mod tally;
 
 pub use plain::{Plain, PlainOpen, PlainSession, PlainTable, Version};

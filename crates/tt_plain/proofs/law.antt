@@ -1,0 +1,4 @@
+pub mod Clock
+pub mod Free
+pub mod Gives
+pub mod Turns

@@ -1,0 +1,14 @@
+//! Laws of the whole store's definitions. They compute nothing.
+
+ghost use Rattle.tt_plain.specs.law.Goes.{RepliesStandAtEnds};
+ghost use Rattle.tt_plain.specs.law.Sound.{LegalStaysInTime};
+
+/// After a legal history the clock is within the days of the calendar, but for a millisecond for each entry.
+pub fn legal_histories_stay_in_time()
+    ensures { LegalStaysInTime }
+{}
+
+/// An entry that is allowed has a reply just where it ends a statement.
+pub fn replies_stand_at_ends()
+    ensures { RepliesStandAtEnds }
+{}
