@@ -1,4 +1,10 @@
+pub mod Alone
+pub mod Applied
 pub mod Clock
 pub mod Free
 pub mod Gives
+pub mod Lists
+pub mod Names
+pub mod Tables
+pub mod TallyChanges
 pub mod Turns

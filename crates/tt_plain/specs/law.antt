@@ -2,5 +2,6 @@
 pub mod Bag
 pub mod Changes
 pub mod Goes
+pub mod Lists
 pub mod Past
 pub mod Sound

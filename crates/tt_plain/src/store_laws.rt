@@ -12,3 +12,10 @@ pub fn legal_histories_stay_in_time()
 pub fn replies_stand_at_ends()
     ensures { RepliesStandAtEnds }
 {}
+
+ghost use Rattle.tt_plain.specs.law.Changes.{SoundEffectsKeepSound};
+
+/// An effect whose changes are sound keeps the store sound.
+pub fn sound_effects_keep_sound()
+    ensures { SoundEffectsKeepSound }
+{}

@@ -1,0 +1,5 @@
+use Rattle.tt_plain.proofs.law.Applied.{effects_keep_sound}
+use Rattle.tt_plain.proofs.store_laws.sound_effects_keep_sound.Goals as goal
+
+pub returns : goal.returns
+returns c = effects_keep_sound
