@@ -19,20 +19,6 @@ use Rattle.tt_partition.specs.Cuts.{kinds_of}
 use Rattle.tt_partition.specs.Fits.{FitsKind, FitKinds, FitSchema}
 use Rattle.tt_partition.specs.Validity.{IsValid, AreValid}
 
-front_same : {X : Type 0} (n : ℕ) (xs : List X) → take (min n (length xs)) xs ≡ take n xs
-front_same n xs = go (ltb (length xs) n) refl
-  where
-    go : (b : Bool) → ltb (length xs) n ≡ b → take (min n (length xs)) xs ≡ take n xs
-    go true t = let lt = ltb-true (length xs) n t in let e : min n (length xs) ≡ length xs = omega (arith, lt) in ap (λ m. take m xs) e ∙ take_all (length xs) xs (omega arith) ∙ sym (take_all n xs (omega (arith, lt)))
-    go false t = let le = ltb-false (length xs) n t in let e : min n (length xs) ≡ n = omega (arith, le) in ap (λ m. take m xs) e
-
-back_same : {X : Type 0} (n : ℕ) (xs : List X) → drop (min n (length xs)) xs ≡ drop n xs
-back_same n xs = go (ltb (length xs) n) refl
-  where
-    go : (b : Bool) → ltb (length xs) n ≡ b → drop (min n (length xs)) xs ≡ drop n xs
-    go true t = let lt = ltb-true (length xs) n t in let e : min n (length xs) ≡ length xs = omega (arith, lt) in ap (λ m. drop m xs) e ∙ drop_of_length-le xs (omega arith) ∙ sym (drop_of_length-le xs (omega (arith, lt)))
-    go false t = let le = ltb-false (length xs) n t in let e : min n (length xs) ≡ n = omega (arith, le) in ap (λ m. drop m xs) e
-
 next_place : (t cap : ℕ) → (t + 1) * cap ≡ t * cap + cap
 next_place t cap = add-mul t 1 cap ∙ ap (λ m. t * cap + m) (omega arith)
 
@@ -78,13 +64,9 @@ rows_have_kinds : (ks : List Kind) (rows : List Row) → AllByRecursion (λ (row
 rows_have_kinds ks [] h valid = tt
 rows_have_kinds ks (row ∷ rows) h valid = (have_kinds ks row.values h.0 valid.0, rows_have_kinds ks rows h.1 valid.1)
 
--- the rows that are cut off next
-pub front_is : (rows rest part : List Row) (t cap : ℕ) → rest ≡ drop (t * cap) rows → part ≡ take (min cap (length rest)) rest → part ≡ take cap (drop (t * cap) rows)
-front_is rows rest part t cap e f = f ∙ front_same cap rest ∙ ap (take cap) e
-
 -- the rows that are left
-pub back_is : (rows rest after : List Row) (t cap : ℕ) → rest ≡ drop (t * cap) rows → after ≡ drop (min cap (length rest)) rest → after ≡ drop ((t + 1) * cap) rows
-back_is rows rest after t cap e f = f ∙ back_same cap rest ∙ ap (drop cap) e ∙ drop-drop cap (t * cap) rows ∙ ap (λ m. drop m rows) (sym (next_place t cap))
+pub back_is : (rows rest after : List Row) (t cap : ℕ) → rest ≡ drop (t * cap) rows → after ≡ drop cap rest → after ≡ drop ((t + 1) * cap) rows
+back_is rows rest after t cap e f = f ∙ ap (drop cap) e ∙ drop-drop cap (t * cap) rows ∙ ap (λ m. drop m rows) (sym (next_place t cap))
 
 pub cut_is_part : (schema : Schema) (rows part : List Row) (t cap : ℕ) → 1 ≤ length schema.columns → length schema.columns ≤ 32 → 1 ≤ cap → cap ≤ 65536 → FitSchema schema rows → AllByRecursion AreValid rows → t < (length rows + (cap - 1)) / cap → part ≡ take cap (drop (t * cap) rows)
     → IsPart (record { kinds = kinds_of schema; rows = part })

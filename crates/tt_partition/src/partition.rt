@@ -1,6 +1,6 @@
 //! The partition: rows that never change, as an image of bytes with its zones.
 
-ghost use Rattle.std.specs.Prelude.{◌≡◌, ◌≤◌, ◌<◌, ◌^◌, length, All, IfOk, Ok};
+ghost use Rattle.std.specs.Prelude.{◌≡◌, ◌≤◌, ◌<◌, ◌^◌, length, take, drop, All, IfOk, Ok};
 ghost use Rattle.tt_partition.specs.ColumnView.{IsColumnAt};
 ghost use Rattle.std.specs.List.{AllByRecursion, AllZip};
 ghost use Rattle.tt_partition.specs.ImageReading.{table_at};
@@ -83,7 +83,7 @@ impl Partition {
         let mut rest = rows;
         let count = (rows.len() + (cap - 1)) / cap;
         for _turn in 0..count {
-            let (part, after) = rest.split_at(cap.min(rest.len()));
+            let (part, after) = next_rows(rest, cap);
             parts.push(build_one(alloc, schema, part)?)?;
             rest = after;
         }
@@ -163,6 +163,14 @@ impl Partition {
             Err(ImageError::BadImage(_)) => unreachable!(),
         }
     }
+}
+
+/// So many rows, or all where there are fewer, and what stands behind them.
+fn next_rows(rows: &[Row], count: usize) -> (&[Row], &[Row])
+    ensures front { result.0.now ≡ take count rows.now }
+    ensures rest { result.1.now ≡ drop count rows.now }
+{
+    rows.split_at(count.min(rows.len()))
 }
 
 /// The partition of an image, or the place of the first fault.

@@ -197,5 +197,6 @@ pub fn image_of(alloc: Global, schema: &Schema, rows: &[Row]) -> Result<Vec<u8>,
     out.extend_from_slice(&(rows.len() as u32).to_le_bytes())?;
     out.extend_from_slice(&(schema.columns.len() as u16).to_le_bytes())?;
     push_columns(alloc, &mut out, schema, rows)?;
+    out.shrink_to_fit();
     Ok(out)
 }
