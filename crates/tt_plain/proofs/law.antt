@@ -1,10 +1,13 @@
 pub mod Alone
 pub mod Applied
 pub mod Clock
+pub mod Entries
 pub mod Free
 pub mod Gives
 pub mod Lists
 pub mod Names
+pub mod Plainly
+pub mod Rounds
 pub mod Tables
 pub mod TallyChanges
 pub mod Turns

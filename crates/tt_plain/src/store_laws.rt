@@ -19,3 +19,12 @@ ghost use Rattle.tt_plain.specs.law.Changes.{SoundEffectsKeepSound};
 pub fn sound_effects_keep_sound()
     ensures { SoundEffectsKeepSound }
 {}
+
+ghost use Rattle.tt_plain.specs.law.Changes.{KindIsSound};
+ghost use Rattle.tt_plain.specs.law.Kinds.{ChangesNoTable, IsOfWorker};
+
+/// The entries of these kinds keep a sound store sound.
+pub fn entries_keep_sound()
+    ensures of_sessions { KindIsSound ChangesNoTable }
+    ensures of_workers { KindIsSound IsOfWorker }
+{}

@@ -17,8 +17,6 @@ use Rattle.tt_plain.specs.stored.Sessions.{has_exclusive_mark}
 use Rattle.tt_plain.specs.tally.Changes.{TallyChange, changed_tally}
 use Rattle.tt_script.specs.declared.script.Script.{Script}
 
-
-
 pub set_at : {A : Type 0} (xs : List A) (place : ℕ) (x : A) (k : ℕ) (y : A) → slice_get (slice_set xs place x) k ≡ Some y → ((k ≡ place) × (y ≡ x)) ⊎ (slice_get xs k ≡ Some y)
 set_at [] place x k y e = inr e
 set_at (z ∷ xs) zero x zero y e = inl (refl, sym (same_Some x y e))
@@ -26,11 +24,14 @@ set_at (z ∷ xs) zero x (suc k) y e = inr e
 set_at (z ∷ xs) (suc place) x zero y e = inr e
 set_at (z ∷ xs) (suc place) x (suc k) y e = elim (set_at xs place x k y e) [ inl h ↦ inl (ap suc h.0, h.1) | inr h ↦ inr h ]
 
--- a session's entry that is due: that of its next or its open statement
+-- a session's entry that is due: at the next moment of a sound store
 pub record IsDue (carried : Carried) (asked : Asked) : Type 0 where
   pub sound : IsSound carried asked.program asked.store
   pub next : asked.moment ≡ asked.store.moment + 1
   pub at : slice_get asked.store.sessions asked.session ≡ Some (state_asked asked)
+
+-- the statement that is asked is the one behind those that are done
+pub record IsSaid (carried : Carried) (asked : Asked) : Type 0 where
   pub counted : asked.index ≡ (state_asked asked).done + 1
   pub said : statement_read carried asked.program asked.session asked.index ≡ Some asked.read
 
@@ -52,12 +53,12 @@ module _ (carried : Carried) (asked : Asked) (due : IsDue carried asked) where
   holders_set : (new : PlainSession) → StandsAlone asked new → (table : ℕ) → HaveOneHolder (slice_set asked.store.sessions asked.session new) table
   holders_set new alone table a b first second at there left right =
       elim (set_at asked.store.sessions asked.session new a first at) [
-        inl h ↦ elim (set_at asked.store.sessions asked.session new b second there) [
-          inl k ↦ h.0 ∙ sym k.0
+        | inl h ↦ elim (set_at asked.store.sessions asked.session new b second there) [
+          | inl k ↦ h.0 ∙ sym k.0
           | inr k ↦ h.0 ∙ sym (alone table b second (subst (λ (s : PlainSession). has_exclusive_mark table s ≡ true) h.1 left) k right)
         ]
         | inr h ↦ elim (set_at asked.store.sessions asked.session new b second there) [
-          inl k ↦ alone table a first (subst (λ (s : PlainSession). has_exclusive_mark table s ≡ true) k.1 right) h left ∙ sym k.0
+          | inl k ↦ alone table a first (subst (λ (s : PlainSession). has_exclusive_mark table s ≡ true) k.1 right) h left ∙ sym k.0
           | inr k ↦ due.sound.holders table a b first second h k left right
         ]
       ]
@@ -75,7 +76,7 @@ module _ (carried : Carried) (asked : Asked) (due : IsDue carried asked) where
     tally = changes;
     paired = ap (λ (ls : List (List (ℕ × List ℕ))). length ls) layouts ∙ due.sound.layouts;
     each = λ session state at. elim (set_at asked.store.sessions asked.session new session state at) [
-      inl h ↦ subst (λ (s : PlainSession). IsSoundSession carried asked.program asked.store.tables session s) (sym h.1)
+      | inl h ↦ subst (λ (s : PlainSession). IsSoundSession carried asked.program asked.store.tables session s) (sym h.1)
           (subst (λ (n : ℕ). IsSoundSession carried asked.program asked.store.tables n new) (sym h.0) sound)
       | inr h ↦ due.sound.each session state h
     ];

@@ -17,7 +17,6 @@ use Rattle.tt_plain.specs.refusal.LockHeld.{holders}
 use Rattle.tt_plain.specs.stored.Tables.{is_live}
 use Rattle.tt_retain.specs.Retention.{with_regime}
 
-
 -- ---- tables
 
 abbrev Stand : ℕ → List PlainTable → Type 0
@@ -33,10 +32,12 @@ quiet : (f : PlainTable → PlainTable) → ((table : PlainTable) → (f table).
 quiet f name live = record { name = name; live = λ table e. sym (live table) ∙ e }
 
 change_keeps : (moment : ℕ) (tables : List PlainTable) (change : TableChange) → moment < 2 ^ 62 → Stand moment tables → IsSoundTableChange moment tables change → Stand moment (changed_table tables change)
-change_keeps moment tables (Made table) time stand ok =
-    (subst (λ (n : ℕ). AreSoundTables moment n 1 (tables ++ table ∷ [])) (sym (length_push tables table))
-    (tables-push moment (length tables + 1) 1 tables table (tables_later moment moment (length tables) (length tables + 1) 1 tables (omega arith) (omega arith) stand.0)
-    (subst (λ (n : ℕ). IsSoundTable moment (length tables + 1) n table) (omega arith) ok.0)), names-push tables table ok.1 stand.1)
+change_keeps moment tables (Made table) time stand ok = (
+  subst (λ (n : ℕ). AreSoundTables moment n 1 (tables ++ table ∷ [])) (sym (length_push tables table))
+      (tables-push moment (length tables + 1) 1 tables table (tables_later moment moment (length tables) (length tables + 1) 1 tables (omega arith) (omega arith) stand.0)
+      (subst (λ (n : ℕ). IsSoundTable moment (length tables + 1) n table) (omega arith) ok.0)),
+  names-push tables table ok.1 stand.1,
+)
 change_keeps moment tables (Dropped number dropped) time stand ok =
     stand-with moment number (λ (table : PlainTable). record table { dropped = Some dropped }) tables
     (tables-with moment (length tables) number (λ (table : PlainTable). record table { dropped = Some dropped }) tables (keeps_dropped moment (length tables) (Some dropped)) stand.0)

@@ -4,8 +4,6 @@ use Rattle.std.proofs.Common.{cond, subst, suc, zero}
 use Rattle.std.proofs.lemmas.Option.{none-some, same_Some}
 use Rattle.tt_plain.specs.law.Lists.{EachTwo, Every}
 
-
-
 pub every_on : {A : Type 0} (P Q : A → Type 0) (xs : List A) → ((x : A) → P x → Q x) → Every P xs → Every Q xs
 every_on P Q [] on all = tt
 every_on P Q (x ∷ xs) on all = (on x all.0, every_on P Q xs on all.1)

@@ -11,8 +11,6 @@ use Rattle.tt_plain.specs.law.Lists.{EachTwo, Every}
 use Rattle.tt_plain.specs.law.Sound.{AreSoundTables, HaveOwnNames}
 use Rattle.tt_plain.specs.stored.Tables.{is_live}
 
-
-
 abbrev pub Differ : PlainTable → PlainTable → Type 0
 Differ a b = a.name ≢ b.name
 
@@ -139,12 +137,15 @@ names_back moment count first number name (table ∷ tables) all named free two 
   where
     free_behind : IsFreeName tables name
     free_behind = tail_free (λ (t : PlainTable). t.name ≢ name) (is_live table) table (filter is_live tables) free
+
     here : (test : Bool) → (table.number == number) ≡ test → HaveOwnNames (with_table number live_again tables) → HaveOwnNames ((if test then live_again table else table) ∷ with_table number live_again tables)
     here true e rest =
         let is_name : table.name ≡ name = named table 0 refl (omega (arith, same_number table.number number e, all.0.numbered)) in
-        let same : with_table number live_again tables ≡ tables = untouched moment count (first + 1) number tables (omega (arith, same_number table.number number e, all.0.numbered)) all.1 in
-        (subst (λ (ts : List PlainTable). Every (Differ (live_again table)) (filter is_live ts)) (sym same)
-        (every_on (λ (t : PlainTable). t.name ≢ name) (Differ (live_again table)) (filter is_live tables) (λ t differs f. differs (sym f ∙ is_name)) free_behind), rest)
+        let same : with_table number live_again tables ≡ tables = untouched moment count (first + 1) number tables (omega (arith, same_number table.number number e, all.0.numbered)) all.1 in (
+          subst (λ (ts : List PlainTable). Every (Differ (live_again table)) (filter is_live ts)) (sym same)
+              (every_on (λ (t : PlainTable). t.name ≢ name) (Differ (live_again table)) (filter is_live tables) (λ t differs f. differs (sym f ∙ is_name)) free_behind),
+          rest,
+        )
     here false e rest =
         two_on (is_live table) table (filter is_live tables) (filter is_live (with_table number live_again tables))
         (λ live each. back_others moment count (first + 1) number name table tables all.1 (named_behind first number name table tables named) (head_free (λ (t : PlainTable). t.name ≢ name) (is_live table) table (filter is_live tables) live free) each)

@@ -13,8 +13,6 @@ use Rattle.tt_retain.specs.declared.regime.Regime.{Regime}
 use Rattle.tt_value.specs.declared.value.Row.{Row}
 use Rattle.tt_value.specs.values.Bags.{IsBag}
 
-
-
 -- ---- one table
 
 follow_later : (begun moment later : ℕ) (versions : List Version) → moment ≤ later → FollowFrom begun moment versions → FollowFrom begun later versions
@@ -74,19 +72,34 @@ tables-with moment count number f tables keeps all =
 
 pub keeps_dropped : (moment count : ℕ) (dropped : Option ℕ) → Keeps moment count (λ (table : PlainTable). record table { dropped = dropped })
 keeps_dropped moment count dropped number table sound = record {
-  numbered = sound.numbered; group = sound.group; columns = sound.columns; key = sound.key; versions = sound.versions; some = sound.some;
+  numbered = sound.numbered;
+  group = sound.group;
+  columns = sound.columns;
+  key = sound.key;
+  versions = sound.versions;
+  some = sound.some;
   regimes = record { kind = sound.regimes.kind; made = sound.regimes.made; order = sound.regimes.order; begun = sound.regimes.begun };
 }
 
 pub keeps_suspended : (moment count : ℕ) (suspended : Bool) → Keeps moment count (λ (table : PlainTable). record table { suspended = suspended })
 keeps_suspended moment count suspended number table sound = record {
-  numbered = sound.numbered; group = sound.group; columns = sound.columns; key = sound.key; versions = sound.versions; some = sound.some;
+  numbered = sound.numbered;
+  group = sound.group;
+  columns = sound.columns;
+  key = sound.key;
+  versions = sound.versions;
+  some = sound.some;
   regimes = record { kind = sound.regimes.kind; made = sound.regimes.made; order = sound.regimes.order; begun = sound.regimes.begun };
 }
 
 pub keeps_renamed : (moment count : ℕ) (names : List (ℕ × List ℕ)) → Keeps moment count (renamed names)
 keeps_renamed moment count names number table sound = record {
-  numbered = sound.numbered; group = sound.group; columns = sound.columns; key = sound.key; versions = sound.versions; some = sound.some;
+  numbered = sound.numbered;
+  group = sound.group;
+  columns = sound.columns;
+  key = sound.key;
+  versions = sound.versions;
+  some = sound.some;
   regimes = record { kind = sound.regimes.kind; made = sound.regimes.made; order = sound.regimes.order; begun = sound.regimes.begun };
 }
 
@@ -96,7 +109,10 @@ none_pushed (y ∷ xs) x e = cc
 
 pub keeps_version : (moment count : ℕ) (rows : List Row) → IsBag rows → Keeps moment count (with_version moment rows)
 keeps_version moment count rows bag number table sound = record {
-  numbered = sound.numbered; group = sound.group; columns = sound.columns; key = sound.key;
+  numbered = sound.numbered;
+  group = sound.group;
+  columns = sound.columns;
+  key = sound.key;
   regimes = record { kind = sound.regimes.kind; made = sound.regimes.made; order = sound.regimes.order; begun = sound.regimes.begun };
   versions = follow-push table.made moment table.versions (record { begun = moment; rows = rows }) sound.versions refl bag;
   some = none_pushed table.versions (record { begun = moment; rows = rows });
@@ -118,7 +134,12 @@ pub keeps_regime : (moment count days : ℕ) → moment < 2 ^ 62 → days ≤ 90
 keeps_regime moment count days time few number table sound =
     let regime : Regime = record { begun = moment; days = days } in
     record {
-      numbered = sound.numbered; group = sound.group; columns = sound.columns; key = sound.key; versions = sound.versions; some = sound.some;
+      numbered = sound.numbered;
+      group = sound.group;
+      columns = sound.columns;
+      key = sound.key;
+      versions = sound.versions;
+      some = sound.some;
       regimes = record {
         kind = sound.regimes.kind;
         made = made_stays table.regimes.regimes regime table.made sound.regimes.order.0 sound.regimes.made;
@@ -137,7 +158,11 @@ keys-map moment count first number key (table ∷ tables) all fits =
   where
     here : (test : Bool) → (table.number == number) ≡ test → IsSoundTable moment count first (if test then record table { key = key } else table)
     here true e = record {
-      numbered = all.0.numbered; group = all.0.group; columns = all.0.columns; versions = all.0.versions; some = all.0.some;
+      numbered = all.0.numbered;
+      group = all.0.group;
+      columns = all.0.columns;
+      versions = all.0.versions;
+      some = all.0.some;
       regimes = record { kind = all.0.regimes.kind; made = all.0.regimes.made; order = all.0.regimes.order; begun = all.0.regimes.begun };
       key = fits table 0 refl (omega (arith, same_number table.number number e, all.0.numbered));
     }

@@ -19,10 +19,6 @@ use Rattle.tt_plain.specs.law.Sound.{AreNumberedParts, AreSoundLayouts, AreSound
 use Rattle.tt_plain.specs.tally.Changes.{AddsParts, BeginsLayout, EndsPending, EndsRound, Keeps, MakesTable, Pins, StartsRound, TakesAway, TallyChange, Unpins, changed_tally, part_added, stands_before, taken_away, with_layout, with_lists, with_pins}
 use Rattle.tt_plain.specs.tally.Parts.{are_next_parts, has_right_size, numbers_added}
 
-
-
-
-
 -- ---- parts
 
 parts-append : (number : ℕ) (parts others : List TallyPart) → AreNumberedParts number parts → AreNumberedParts (number + length parts) others → AreNumberedParts number (parts ++ others)
@@ -41,7 +37,7 @@ parts_taken : (number : ℕ) (taken : List ℕ) (parts : List TallyPart) → Are
 parts_taken number taken [] all = tt
 parts_taken number taken (part ∷ parts) all = (all.0, parts_taken (number + 1) taken parts all.1)
 
-next_numbers : (tally : Tally) (added : List Added) → are_next_parts tally added ≡ true → numbers_added added ≡ range_with_len (length tally.parts + 1) (length added)
+pub next_numbers : (tally : Tally) (added : List Added) → are_next_parts tally added ≡ true → numbers_added added ≡ range_with_len (length tally.parts + 1) (length added)
 unfolding are_next_parts
 next_numbers tally added e =
     let both = and_parts (bytes_eq (numbers_added added) (range_with_len (length tally.parts + 1) (length added))) (list_all has_right_size added) e in
@@ -62,9 +58,10 @@ none_pushed (y ∷ xs) x e = cc
 
 layouts-push : (moment : ℕ) (layouts : List (ℕ × List ℕ)) (parts : List ℕ) → AreSoundLayouts moment layouts → IsAscending parts → AreSoundLayouts moment (layouts ++ (moment, parts) ∷ [])
 layouts-push moment layouts parts all up =
-    let begun : tail_begun 0 layouts ≤ moment = subst (λ (n : ℕ). n ≤ moment) (last_begun_is layouts) all.1 in
-    ((none_pushed layouts (moment, parts), follow-more 0 layouts (moment, parts) all.0.1 begun up),
-    subst (λ (n : ℕ). n ≤ moment) (sym (last_begun_is (layouts ++ (moment, parts) ∷ []) ∙ last_pushed 0 layouts (moment, parts))) (omega arith))
+    let begun : tail_begun 0 layouts ≤ moment = subst (λ (n : ℕ). n ≤ moment) (last_begun_is layouts) all.1 in (
+      (none_pushed layouts (moment, parts), follow-more 0 layouts (moment, parts) all.0.1 begun up),
+      subst (λ (n : ℕ). n ≤ moment) (sym (last_begun_is (layouts ++ (moment, parts) ∷ []) ∙ last_pushed 0 layouts (moment, parts))) (omega arith),
+    )
 
 layout_given : (moment : ℕ) (layouts : List (List (ℕ × List ℕ))) (place : ℕ) (parts : List ℕ) → Every (AreSoundLayouts moment) layouts → IsAscending parts
     → (found : Option (List (ℕ × List ℕ))) → slice_get layouts place ≡ found → AreSoundLayouts moment (unwrap_or found [] ++ (moment, parts) ∷ [])
@@ -81,7 +78,7 @@ Before a b = stands_before a b ≡ true
 
 before_parts : (s t u v : ℕ) → (nat_lt s u || (s == u && nat_lt t v)) ≡ true → (s < u) ⊎ ((s ≡ u) × (t < v))
 before_parts s t u v e = elim (or_cases (nat_lt s u) (s == u && nat_lt t v) e) [
-  inl h ↦ inl (ltb-true s u h)
+  | inl h ↦ inl (ltb-true s u h)
   | inr h ↦ let both = and_parts (s == u) (nat_lt t v) h in inr (eqb-true s u both.0, ltb-true t v both.1)
 ]
 
@@ -132,55 +129,97 @@ pins_put session pins all here each =
 
 pub tally_later : (moment later : ℕ) (tally : Tally) → moment ≤ later → IsSoundTally moment tally → IsSoundTally later tally
 tally_later moment later tally le sound = record {
-  numbered = sound.numbered; pending = sound.pending; lists = sound.lists; pins = sound.pins; round = sound.round;
+  numbered = sound.numbered;
+  pending = sound.pending;
+  lists = sound.lists;
+  pins = sound.pins;
+  round = sound.round;
   layouts = layouts_later moment later tally.layouts le sound.layouts;
 }
 
 pub tally_keeps : (moment : ℕ) (tally : Tally) (change : TallyChange) → IsSoundTally moment tally → IsSoundTallyChange moment tally change → IsSoundTally moment (changed_tally tally change)
 tally_keeps moment tally (AddsParts origin parts) sound ok = record {
-  layouts = sound.layouts; pending = sound.pending; lists = sound.lists; pins = sound.pins; round = sound.round;
+  layouts = sound.layouts;
+  pending = sound.pending;
+  lists = sound.lists;
+  pins = sound.pins;
+  round = sound.round;
   numbered = parts-append 1 tally.parts (map (part_added origin) parts) sound.numbered
       (subst (λ (n : ℕ). AreNumberedParts n (map (part_added origin) parts)) (omega arith) (parts_added origin (length tally.parts + 1) parts (next_numbers tally parts ok)));
 }
 tally_keeps moment tally (MakesTable begun parts) sound ok = record {
-  numbered = sound.numbered; pending = sound.pending; lists = sound.lists; pins = sound.pins; round = sound.round;
+  numbered = sound.numbered;
+  pending = sound.pending;
+  lists = sound.lists;
+  pins = sound.pins;
+  round = sound.round;
   layouts = every-append (AreSoundLayouts moment) tally.layouts (((begun, parts) ∷ []) ∷ []) sound.layouts
       (subst (λ (n : ℕ). AreSoundLayouts moment ((n, parts) ∷ [])) (sym ok.0) (one_layout moment parts ok.1), tt);
 }
 tally_keeps moment tally (BeginsLayout table begun parts) sound ok = record {
-  numbered = sound.numbered; pending = sound.pending; lists = sound.lists; pins = sound.pins; round = sound.round;
+  numbered = sound.numbered;
+  pending = sound.pending;
+  lists = sound.lists;
+  pins = sound.pins;
+  round = sound.round;
   layouts = subst (λ (n : ℕ). Every (AreSoundLayouts moment) (with_layout tally.layouts table (n, parts))) (sym ok.0)
       (every-set (AreSoundLayouts moment) tally.layouts (table - 1) (unwrap_or (slice_get tally.layouts (table - 1)) [] ++ (moment, parts) ∷ []) sound.layouts
       (layout_given moment tally.layouts (table - 1) parts sound.layouts ok.1 (slice_get tally.layouts (table - 1)) refl));
 }
 tally_keeps moment tally (Keeps lists) sound ok = record {
-  numbered = sound.numbered; layouts = sound.layouts; pins = sound.pins; round = sound.round;
+  numbered = sound.numbered;
+  layouts = sound.layouts;
+  pins = sound.pins;
+  round = sound.round;
   pending = lists_put lists tally.pending sound.pending;
   lists = lists_with lists tally.pending ok sound.lists;
 }
 tally_keeps moment tally (EndsPending session) sound ok = record {
-  numbered = sound.numbered; layouts = sound.layouts; pins = sound.pins; round = sound.round;
+  numbered = sound.numbered;
+  layouts = sound.layouts;
+  pins = sound.pins;
+  round = sound.round;
   pending = two-filter Before (λ (lists : TallyPending). not (lists.session == session)) tally.pending sound.pending;
   lists = every-filter AreSoundLists (λ (lists : TallyPending). not (lists.session == session)) tally.pending sound.lists;
 }
 tally_keeps moment tally (Pins session pins) sound ok = record {
-  numbered = sound.numbered; layouts = sound.layouts; pending = sound.pending; lists = sound.lists; round = sound.round;
+  numbered = sound.numbered;
+  layouts = sound.layouts;
+  pending = sound.pending;
+  lists = sound.lists;
+  round = sound.round;
   pins = pins_put session pins tally.pins (every_on (λ (pin : TallyPin). (pin.session ≡ session) × IsAscending pin.parts) Ascends pins (λ pin h. h.1) ok) sound.pins;
 }
 tally_keeps moment tally (Unpins session) sound ok = record {
-  numbered = sound.numbered; layouts = sound.layouts; pending = sound.pending; lists = sound.lists; round = sound.round;
+  numbered = sound.numbered;
+  layouts = sound.layouts;
+  pending = sound.pending;
+  lists = sound.lists;
+  round = sound.round;
   pins = pins_put session [] tally.pins tt sound.pins;
 }
 tally_keeps moment tally (StartsRound round) sound ok = record {
-  numbered = sound.numbered; layouts = sound.layouts; pending = sound.pending; lists = sound.lists; pins = sound.pins;
+  numbered = sound.numbered;
+  layouts = sound.layouts;
+  pending = sound.pending;
+  lists = sound.lists;
+  pins = sound.pins;
   round = ok;
 }
 tally_keeps moment tally EndsRound sound ok = record {
-  numbered = sound.numbered; layouts = sound.layouts; pending = sound.pending; lists = sound.lists; pins = sound.pins;
+  numbered = sound.numbered;
+  layouts = sound.layouts;
+  pending = sound.pending;
+  lists = sound.lists;
+  pins = sound.pins;
   round = tt;
 }
 tally_keeps moment tally (TakesAway parts) sound ok = record {
-  layouts = sound.layouts; pending = sound.pending; lists = sound.lists; pins = sound.pins; round = sound.round;
+  layouts = sound.layouts;
+  pending = sound.pending;
+  lists = sound.lists;
+  pins = sound.pins;
+  round = sound.round;
   numbered = parts_taken 1 parts tally.parts sound.numbered;
 }
 

@@ -35,9 +35,6 @@ use Rattle.tt_value.specs.declared.value.Schema.{Schema}
 use Rattle.tt_value.specs.values.Bags.{IsBag}
 use Rattle.tt_layout.specs.Chain as chain
 
-
-
-
 -- ---- tables
 
 -- versions are bags, begin one after the other, and none after the moment
@@ -97,12 +94,12 @@ abbrev pub IsSoundPending : ℕ → PlainPending → Type 0
 IsSoundPending count pending = AreRowsOf count (pending.table, pending.gone) × IsBag pending.added
 
 -- a mark that is at least as strong, on the same table
-abbrev pub covers : PlainMark → PlainMark → Bool
-covers mark other = other.table == mark.table && (other.exclusive || not mark.exclusive)
+abbrev pub is_kept_by : PlainMark → PlainMark → Bool
+is_kept_by mark other = other.table == mark.table && (other.exclusive || not mark.exclusive)
 
 -- each of the earlier marks is among those now, or a stronger one
 abbrev pub AreKept : List PlainMark → List PlainMark → Type 0
-AreKept before marks = Every (λ (mark : PlainMark). list_any (covers mark) marks ≡ true) before
+AreKept before marks = Every (λ (mark : PlainMark). list_any (is_kept_by mark) marks ≡ true) before
 
 -- The open statement is the one behind those that are done, and sees bags of tables that there are. The marks before it are kept,
 -- outside a transaction there were none, and a query puts none.
