@@ -21,10 +21,11 @@ pub fn sound_effects_keep_sound()
 {}
 
 ghost use Rattle.tt_plain.specs.law.Changes.{KindIsSound};
-ghost use Rattle.tt_plain.specs.law.Kinds.{ChangesNoTable, IsOfWorker};
+ghost use Rattle.tt_plain.specs.law.Kinds.{BeginsVersions, ChangesNoTable, IsOfWorker};
 
 /// The entries of these kinds keep a sound store sound.
 pub fn entries_keep_sound()
     ensures of_sessions { KindIsSound ChangesNoTable }
+    ensures of_versions { KindIsSound BeginsVersions }
     ensures of_workers { KindIsSound IsOfWorker }
 {}

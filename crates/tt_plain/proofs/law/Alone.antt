@@ -50,7 +50,7 @@ module _ (carried : Carried) (asked : Asked) (due : IsDue carried asked) where
   no_more_marks new kept table other state marked there held =
       due.sound.holders table other asked.session state (state_asked asked) there due.at held (kept table marked)
 
-  holders_set : (new : PlainSession) → StandsAlone asked new → (table : ℕ) → HaveOneHolder (slice_set asked.store.sessions asked.session new) table
+  pub holders_set : (new : PlainSession) → StandsAlone asked new → (table : ℕ) → HaveOneHolder (slice_set asked.store.sessions asked.session new) table
   holders_set new alone table a b first second at there left right =
       elim (set_at asked.store.sessions asked.session new a first at) [
         | inl h ↦ elim (set_at asked.store.sessions asked.session new b second there) [

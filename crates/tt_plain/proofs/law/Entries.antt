@@ -8,9 +8,12 @@ use Rattle.tt_history.specs.declared.history.EntryKind.{EntryKind}
 use Rattle.tt_plain.proofs.Answers.{bind_some, only_if_some}
 use Rattle.tt_plain.proofs.Tests.{none_is, same_number}
 use Rattle.tt_plain.proofs.law.Alone.{IsDue, IsSaid}
+use Rattle.tt_plain.proofs.law.Commits.{commit_sound}
+use Rattle.tt_plain.proofs.law.Ends.{end_sound}
 use Rattle.tt_plain.proofs.law.Gives.{Gives, gives_at, gives_bind, gives_or, gives_tested}
 use Rattle.tt_plain.proofs.law.Plainly.{SoundIn, abandon_sound, begin_sound, report_sound, rollback_sound, rolled_back_sound, wait_sound}
 use Rattle.tt_plain.proofs.law.Rounds.{purge_sound, round_end_sound, round_miss_sound, round_start_sound}
+use Rattle.tt_plain.proofs.law.Starts.{start_sound}
 use Rattle.tt_plain.proofs.law.Turns.{next_gives, open_gives}
 use Rattle.tt_plain.specs.asked.Asked.{Asked}
 use Rattle.tt_plain.specs.asked.Carried.{Carried}
@@ -22,7 +25,7 @@ use Rattle.tt_plain.specs.effect.Effect.{Effect}
 use Rattle.tt_plain.specs.effect.Rollback.{closing_effect, has_ended_statements, rollback_effect}
 use Rattle.tt_plain.specs.history.Step.{actor_entry, effect_of, of_next, of_open, purge_entry, round_entry, session_entry}
 use Rattle.tt_plain.specs.law.Changes.{IsSoundEffect, IsSoundEntry, KindIsSound}
-use Rattle.tt_plain.specs.law.Kinds.{ChangesNoTable, IsOfWorker}
+use Rattle.tt_plain.specs.law.Kinds.{BeginsVersions, ChangesNoTable, IsOfWorker}
 use Rattle.tt_plain.specs.law.Sound.{IsSound}
 use Rattle.tt_plain.specs.stored.Points.{count_in}
 use Rattle.tt_plain.specs.stored.Sessions.{new_session, session_at}
@@ -81,7 +84,7 @@ module _ (carried : Carried) (program : Script) (store : Plain) (session index :
   plain_sound kind.Rollback is =
       gives_or Sound (of_next carried program store session index rollback_effect) (closing_effect program store session index)
       (next_sound rollback_effect (λ read due said idle. rollback_sound carried (asked_with program store session index read) due idle)) closing_sound
-  plain_sound (kind.Start t) is = absurd is
+  plain_sound (kind.Start t) is = next_sound _ (λ read due said idle. start_sound carried (asked_with program store session index read) due said t idle)
   plain_sound (kind.End gone added) is = absurd is
   plain_sound (kind.Commit t) is = absurd is
   plain_sound (kind.Define t) is = absurd is
@@ -90,6 +93,12 @@ module _ (carried : Carried) (program : Script) (store : Plain) (session index :
   plain_sound (kind.RecluMiss table why) is = tt
   plain_sound (kind.Purge parts) is = tt
   plain_sound kind.Close is = tt
+
+  version_sound : (k : EntryKind) → BeginsVersions k → Gives Sound (session_entry carried program store session index k)
+  unfolding session_entry
+  version_sound (kind.End gone added) is = open_sound _ (λ read seen due said running. end_sound carried (asked_with program store session index read) due said seen running gone added)
+  version_sound (kind.Commit t) is = next_sound _ (λ read due said idle. commit_sound carried (asked_with program store session index read) due t idle)
+  version_sound _ is = absurd is
 
 -- ---- entries of workers
 
@@ -118,6 +127,16 @@ plain_kind carried program store actor.Recluster index _ sound is = tt
 plain_kind carried program store actor.Purge index (kind.Purge parts) sound is = absurd is
 plain_kind carried program store actor.Purge index _ sound is = tt
 
+version_kind : (carried : Carried) (program : Script) (store : Plain) (actor_of : Actor) (index : ℕ) (k : EntryKind) → IsSound carried program store → BeginsVersions k → Gives (SoundIn carried program store) (actor_entry carried program store actor_of index k)
+unfolding round_entry purge_entry
+version_kind carried program store (actor.Session session) index k sound is = version_sound carried program store session index sound k is
+version_kind carried program store actor.Recluster index (kind.End gone added) sound is = tt
+version_kind carried program store actor.Recluster index (kind.Commit t) sound is = tt
+version_kind carried program store actor.Recluster index _ sound is = absurd is
+version_kind carried program store actor.Purge index (kind.End gone added) sound is = tt
+version_kind carried program store actor.Purge index (kind.Commit t) sound is = tt
+version_kind carried program store actor.Purge index _ sound is = absurd is
+
 -- ---- whole entries
 
 entry_sound : (carried : Carried) (program : Script) (store : Plain) (entry : Entry) → Gives (SoundIn carried program store) (actor_entry carried program store entry.actor entry.index entry.kind) → IsSoundEntry carried program store entry
@@ -135,3 +154,7 @@ plain_entries carried program store entry is effect sound time e =
 pub worker_entries : KindIsSound IsOfWorker
 worker_entries carried program store entry is effect sound time e =
     entry_sound carried program store entry (worker_kind carried program store entry.actor entry.index entry.kind sound is) effect sound time e
+
+pub version_entries : KindIsSound BeginsVersions
+version_entries carried program store entry is effect sound time e =
+    entry_sound carried program store entry (version_kind carried program store entry.actor entry.index entry.kind sound is) effect sound time e

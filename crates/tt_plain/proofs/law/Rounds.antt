@@ -63,7 +63,7 @@ pub current_parts_ascend : (moment : ℕ) (tally : Tally) (table : ℕ) → IsSo
 current_parts_ascend moment tally table sound = current_up moment tally.layouts (table - 1) sound.layouts (slice_get tally.layouts (table - 1)) refl
 
 -- a layout that begins is sound, and leaves as many tables with layouts
-begun_sound : (moment : ℕ) (tally after : Tally) (table : ℕ) (gone added : List ℕ) (later : List TallyChange) → IsSoundTally moment tally → IsAscending added
+pub begun_sound : (moment : ℕ) (tally after : Tally) (table : ℕ) (gone added : List ℕ) (later : List TallyChange) → IsSoundTally moment tally → IsAscending added
     → ((t : Tally) → AreSoundTallyChanges moment t later) → AreSoundTallyChanges moment after (layout_begun tally moment table gone added ++ later)
 begun_sound moment tally after table [] [] later sound up rest = rest after
 begun_sound moment tally after table [] (n ∷ added) later sound up rest =
@@ -71,7 +71,7 @@ begun_sound moment tally after table [] (n ∷ added) later sound up rest =
 begun_sound moment tally after table (n ∷ gone) added later sound up rest =
     ((refl, ascends-changed (current_parts tally table) (n ∷ gone) added (current_parts_ascend moment tally table sound) up), rest _)
 
-same_many : (moment : ℕ) (tally after : Tally) (table : ℕ) (gone added : List ℕ) (later : List TallyChange)
+pub same_many : (moment : ℕ) (tally after : Tally) (table : ℕ) (gone added : List ℕ) (later : List TallyChange)
     → ((t : Tally) → length (fold changed_tally t later).layouts ≡ length t.layouts) → length (fold changed_tally after (layout_begun tally moment table gone added ++ later)).layouts ≡ length after.layouts
 same_many moment tally after table [] [] later rest = rest after
 same_many moment tally after table [] (n ∷ added) later rest = rest _ ∙ length-set after.layouts (table - 1) _

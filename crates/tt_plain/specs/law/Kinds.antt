@@ -3,9 +3,10 @@ use Rattle.std.specs.Prelude.{⊤}
 use Rattle.tt_history.specs.declared.history.EntryKind.{EntryKind}
 use Rattle.tt_history.specs.declared.history.EntryKind.TheVariants as kind
 
--- those that change no table: begins, waits, reports, abandons and rollbacks
+-- those that change no table: begins, starts, waits, reports, abandons and rollbacks
 abbrev pub ChangesNoTable : EntryKind → Type 0
 ChangesNoTable (kind.Begin told) = ⊤
+ChangesNoTable (kind.Start told) = ⊤
 ChangesNoTable (kind.Wait told) = ⊤
 ChangesNoTable (kind.Report told numbers) = ⊤
 ChangesNoTable (kind.Abandon told) = ⊤
@@ -20,3 +21,9 @@ IsOfWorker (kind.RecluMiss table why) = ⊤
 IsOfWorker (kind.Purge parts) = ⊤
 IsOfWorker kind.Close = ⊤
 IsOfWorker _ = ⊥
+
+-- those by which what is pending becomes a version: commits, and ends of a change outside a transaction
+abbrev pub BeginsVersions : EntryKind → Type 0
+BeginsVersions (kind.End gone added) = ⊤
+BeginsVersions (kind.Commit told) = ⊤
+BeginsVersions _ = ⊥
