@@ -6,9 +6,11 @@ pub mod Ends
 pub mod Entries
 pub mod Free
 pub mod Gives
+pub mod Histories
 pub mod Lists
 pub mod Marks
 pub mod Names
+pub mod Past
 pub mod Plainly
 pub mod Rounds
 pub mod Starts

@@ -1,7 +1,8 @@
 //! Laws of the whole store's definitions. They compute nothing.
 
+ghost use Rattle.std.specs.Prelude.{◌≡◌};
 ghost use Rattle.tt_plain.specs.law.Goes.{RepliesStandAtEnds};
-ghost use Rattle.tt_plain.specs.law.Sound.{LegalStaysInTime};
+ghost use Rattle.tt_plain.specs.law.Sound.{LegalIsSound, LegalStaysInTime};
 
 /// After a legal history the clock is within the days of the calendar, but for a millisecond for each entry.
 pub fn legal_histories_stay_in_time()
@@ -20,7 +21,7 @@ pub fn sound_effects_keep_sound()
     ensures { SoundEffectsKeepSound }
 {}
 
-ghost use Rattle.tt_plain.specs.law.Changes.{KindIsSound};
+ghost use Rattle.tt_plain.specs.law.Changes.{EntriesAreSound, KindIsSound};
 ghost use Rattle.tt_plain.specs.law.Kinds.{BeginsVersions, ChangesNoTable, IsOfWorker};
 
 /// The entries of these kinds keep a sound store sound.
@@ -28,4 +29,17 @@ pub fn entries_keep_sound()
     ensures of_sessions { KindIsSound ChangesNoTable }
     ensures of_versions { KindIsSound BeginsVersions }
     ensures of_workers { KindIsSound IsOfWorker }
+{}
+
+/// Where each entry keeps a sound store sound, the store to which a legal history leads is sound.
+pub fn legal_histories_are_sound_if_entries_are()
+    ensures { EntriesAreSound → LegalIsSound }
+{}
+
+ghost use Rattle.tt_plain.specs.law.Past.{SoundEffectsKeepHorizons, SoundEffectsKeepPast};
+
+/// An effect whose changes are sound leaves the rows and the layouts of each moment that is past, and no horizon falls.
+pub fn sound_effects_keep_the_past()
+    ensures past { SoundEffectsKeepPast }
+    ensures horizons { SoundEffectsKeepHorizons }
 {}

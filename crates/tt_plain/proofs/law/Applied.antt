@@ -19,7 +19,7 @@ use Rattle.tt_retain.specs.Retention.{with_regime}
 
 -- ---- tables
 
-abbrev Stand : ℕ → List PlainTable → Type 0
+abbrev pub Stand : ℕ → List PlainTable → Type 0
 Stand moment tables = AreSoundTables moment (length tables) 1 tables × HaveOwnNames tables
 
 stand-map : (moment : ℕ) (f : PlainTable → PlainTable) (tables : List PlainTable) → AreSoundTables moment (length tables) 1 (map f tables) → HaveOwnNames (map f tables) → Stand moment (map f tables)
@@ -31,7 +31,7 @@ stand-with moment number f tables sound names = stand-map moment (λ (table : Pl
 quiet : (f : PlainTable → PlainTable) → ((table : PlainTable) → (f table).name ≡ table.name) → ((table : PlainTable) → is_live (f table) ≡ is_live table) → IsQuiet f
 quiet f name live = record { name = name; live = λ table e. sym (live table) ∙ e }
 
-change_keeps : (moment : ℕ) (tables : List PlainTable) (change : TableChange) → moment < 2 ^ 62 → Stand moment tables → IsSoundTableChange moment tables change → Stand moment (changed_table tables change)
+pub change_keeps : (moment : ℕ) (tables : List PlainTable) (change : TableChange) → moment < 2 ^ 62 → Stand moment tables → IsSoundTableChange moment tables change → Stand moment (changed_table tables change)
 change_keeps moment tables (Made table) time stand ok = (
   subst (λ (n : ℕ). AreSoundTables moment n 1 (tables ++ table ∷ [])) (sym (length_push tables table))
       (tables-push moment (length tables + 1) 1 tables table (tables_later moment moment (length tables) (length tables + 1) 1 tables (omega arith) (omega arith) stand.0)
@@ -70,7 +70,7 @@ change_keeps moment tables (Suspended number suspended) time stand ok =
     (tables-with moment (length tables) number (λ (table : PlainTable). record table { suspended = suspended }) tables (keeps_suspended moment (length tables) suspended) stand.0)
     (names-with number (λ (table : PlainTable). record table { suspended = suspended }) tables (quiet (λ (table : PlainTable). record table { suspended = suspended }) (λ table. refl) (λ table. refl)) stand.1)
 
-changes_keep : (moment : ℕ) (tables : List PlainTable) (changes : List TableChange) → moment < 2 ^ 62 → Stand moment tables → AreSoundTableChanges moment tables changes → Stand moment (fold changed_table tables changes)
+pub changes_keep : (moment : ℕ) (tables : List PlainTable) (changes : List TableChange) → moment < 2 ^ 62 → Stand moment tables → AreSoundTableChanges moment tables changes → Stand moment (fold changed_table tables changes)
 changes_keep moment tables [] time stand ok = stand
 changes_keep moment tables (change ∷ changes) time stand ok =
     changes_keep moment (changed_table tables change) changes time (change_keeps moment tables change time stand ok.0) ok.1
@@ -90,7 +90,7 @@ length-points points (change ∷ changes) = length-points (changed_point points 
 pub effects_keep_sound : SoundEffectsKeepSound
 unfolding applied
 effects_keep_sound carried program store effect sound ok =
-    let now : AreSoundTables effect.moment (length store.tables) 1 store.tables = tables_later store.moment effect.moment (length store.tables) (length store.tables) 1 store.tables ok.later (omega arith) sound.tables in
+    let now : AreSoundTables effect.moment (length store.tables) 1 store.tables = tables_later store.moment effect.moment (length store.tables) (length store.tables) 1 store.tables (omega (arith, ok.later)) (omega arith) sound.tables in
     let stand : Stand effect.moment (fold changed_table store.tables effect.tables) = changes_keep effect.moment store.tables effect.tables ok.time (now, sound.names) ok.tables in
     record {
       tables = stand.0;
@@ -100,5 +100,5 @@ effects_keep_sound carried program store effect sound ok =
       holders = ok.holders;
       points = length-points store.points effect.points ∙ sound.points;
       layouts = ok.paired;
-      tally = tally_kept effect.moment store.tally effect.tally (tally_later store.moment effect.moment store.tally ok.later sound.tally) ok.tally;
+      tally = tally_kept effect.moment store.tally effect.tally (tally_later store.moment effect.moment store.tally (omega (arith, ok.later)) sound.tally) ok.tally;
     }

@@ -331,7 +331,7 @@ replies_stand carried program store entry next e =
     ap (λ (n : Plain × Option Reply). is_some n.1) (sym found.2) ∙ timed.replies
 
 -- a step's moment
-step_moment : (carried : Carried) (program : Script) (store : Plain) (entry : Entry) (next : Plain × Option Reply) (cap : ℕ)
+pub step_moment : (carried : Carried) (program : Script) (store : Plain) (entry : Entry) (next : Plain × Option Reply) (cap : ℕ)
     → step_of carried program store entry ≡ Some next → last_moment ≤ cap → store.moment + 1 ≤ cap → next.0.moment ≤ cap
 unfolding step_of applied
 step_moment carried program store entry next cap e days below =
@@ -339,7 +339,7 @@ step_moment carried program store entry next cap e days below =
     let timed = gives_at _ (effect_of carried program store entry) found.0 (effect_timed carried program store entry) found.1 in
     subst (λ (n : Plain × Option Reply). n.0.moment ≤ cap) found.2 (timed.most cap days below)
 
-replay_none : (carried : Carried) (program : Script) (entries : List Entry) → replay_from carried program None entries ≡ None
+pub replay_none : (carried : Carried) (program : Script) (entries : List Entry) → replay_from carried program None entries ≡ None
 unfolding replay_from
 replay_none carried program [] = refl
 replay_none carried program (entry ∷ entries) = replay_none carried program entries

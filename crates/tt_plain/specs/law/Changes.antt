@@ -61,7 +61,7 @@ AreSoundTallyChanges moment tally (change ∷ changes) =
 -- An effect whose changes are sound one after the other: each table that is made has layouts, and the sessions are sound in
 -- the tables that there are then.
 pub record IsSoundEffect (carried : Carried) (program : Script) (store : Plain) (effect : Effect) : Type 0 where
-  pub later : store.moment ≤ effect.moment
+  pub later : store.moment < effect.moment
   pub time : effect.moment < 2 ^ 62
   pub tables : AreSoundTableChanges effect.moment store.tables effect.tables
   pub tally : AreSoundTallyChanges effect.moment store.tally effect.tally

@@ -164,11 +164,14 @@ pub record IsSound (carried : Carried) (program : Script) (store : Plain) : Type
   pub layouts : length store.tally.layouts ≡ length store.tables
   pub tally : IsSoundTally store.moment store.tally
 
--- The law, to be proved: a legal history leads to a sound store. The moments of regimes are below 2 ^ 62, so the history is not
--- longer than that.
+-- A program begins within the calendar, and its history is not so long that a moment of it reaches 2 ^ 62, as no regime's may.
+abbrev pub IsInTime : Script → List Entry → Type 0
+IsInTime program history = (program.start ≤ last_moment) × (last_moment + length history < 2 ^ 62)
+
+-- the law, to be proved: a legal history leads to a sound store
 abbrev pub LegalIsSound : Type 0
-LegalIsSound = (carried : Carried) (program : Script) (history : List Entry) (run : Run) → program.start ≤ last_moment →
-    last_moment + length history < 2 ^ 62 → replay_of carried program history ≡ Some run → IsSound carried program run.0
+LegalIsSound = (carried : Carried) (program : Script) (history : List Entry) (run : Run) → IsInTime program history →
+    replay_of carried program history ≡ Some run → IsSound carried program run.0
 
 -- the clock stays within the days of the calendar, but for a millisecond for each entry
 abbrev pub LegalStaysInTime : Type 0
