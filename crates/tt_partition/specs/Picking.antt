@@ -1,5 +1,5 @@
 -- Reading one column of an image. Of the columns in front of it only the heads are read; those behind it are not looked at.
-use Rattle.std.specs.Prelude.{ℕ, zero, suc, List, length, Result, Ok, Err}
+use Rattle.std.specs.Prelude.{ℕ, zero, suc, List, length, Result, Ok}
 use Rattle.tt_value.specs.declared.value.Kind.{Kind}
 use Rattle.tt_value.specs.declared.value.Value.{Value}
 use Rattle.tt_value.specs.columns.Reading.{◌>>=◌}

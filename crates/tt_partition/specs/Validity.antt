@@ -3,7 +3,7 @@ use Rattle.std.specs.Int.{w64}
 use Rattle.std.specs.Int.RustNames.{FitsSigned}
 use Rattle.std.specs.List.{AllByRecursion}
 use Rattle.tt_value.specs.declared.value.Value.{Value}
-use Rattle.tt_value.specs.declared.value.Value.TheVariants.{Null, Int, Date, Text}
+use Rattle.tt_value.specs.declared.value.Value.TheVariants.{Int, Text}
 use Rattle.tt_value.specs.declared.value.Row.{Row}
 use Rattle.tt_textcol.specs.TextBody.{IsValue}
 

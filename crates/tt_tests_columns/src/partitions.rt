@@ -2,8 +2,6 @@
 
 mod building;
 
-ghost use Rattle.std.specs.Prelude.{◌≡◌};
-
 use std::alloc::Global;
 use std::process::Abort;
 use std::test::Fail;

@@ -1,4 +1,4 @@
-use Rattle.std.proofs.Common.{◌≡◌, ◌∙◌, ℕ, ◌+◌, ◌-◌, ◌/◌, List, [], ◌∷◌, ◌++◌, length, map, take, drop, ap, sym, arith}
+use Rattle.std.proofs.Common.{◌≡◌, ◌∙◌, ℕ, ◌+◌, ◌-◌, ◌/◌, List, [], ◌∷◌, ◌++◌, length, map, take, ap, sym, arith}
 use Rattle.std.specs.List.{range_with_len}
 use Rattle.tt_value.specs.declared.value.Row.{Row}
 use Rattle.tt_partition.specs.Table.{Table}
