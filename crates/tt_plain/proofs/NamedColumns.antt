@@ -32,7 +32,7 @@ not_behind text (first ∷ columns) zero column none at =
     subst (λ (c : Column). bytes_eq text c.name ≡ false) (same_Some (column_made first) column at) (not_named (is_name text first.name) first.name.place (nil_both (mention text first.name) (mentions text (defined_names columns)) none).0)
 not_behind text (first ∷ columns) (suc k) column none at = not_behind text columns k column (nil_both (mention text first.name) (mentions text (defined_names columns)) none).1 at
 
-found_made : (columns : List ColumnDefinition) → defined_again (defined_names columns) ≡ [] → (k : ℕ) (column : Column) → slice_get (map column_made columns) k ≡ Some column → position (λ (c : Column). bytes_eq c.name column.name) (map column_made columns) ≡ Some k
+pub found_made : (columns : List ColumnDefinition) → defined_again (defined_names columns) ≡ [] → (k : ℕ) (column : Column) → slice_get (map column_made columns) k ≡ Some column → position (λ (c : Column). bytes_eq c.name column.name) (map column_made columns) ≡ Some k
 found_made [] once k column at = absurd (none-some column at)
 found_made (first ∷ columns) once zero column at =
     subst (λ (c : Column). position (λ (other : Column). bytes_eq other.name c.name) (map column_made (first ∷ columns)) ≡ Some 0) (same_Some (column_made first) column at)
@@ -46,7 +46,7 @@ no_places [] e = refl
 no_places (name ∷ names) e = absurd cc
 
 -- where no column is past the 32nd, each name stands once
-named_once : (names : List Name) → miscounted_columns names ≡ [] → defined_again names ≡ []
+pub named_once : (names : List Name) → miscounted_columns names ≡ [] → defined_again names ≡ []
 named_once names none =
     let both = nil_both (defined_again (take 32 names)) (places_of (drop 32 names)) none in
     let short : length names ≤ 32 = omega (arith, length-drop 32 names, no_places (drop 32 names) both.1) in

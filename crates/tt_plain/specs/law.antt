@@ -2,7 +2,6 @@
 pub mod Bag
 pub mod Changes
 pub mod Goes
-pub mod Kinds
 pub mod Lists
 pub mod Past
 pub mod Sound

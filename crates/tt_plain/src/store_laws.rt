@@ -1,7 +1,8 @@
 //! Laws of the whole store's definitions. They compute nothing.
 
-ghost use Rattle.std.specs.Prelude.{◌≡◌};
+ghost use Rattle.tt_plain.specs.law.Changes.{EntriesAreSound, SoundEffectsKeepSound};
 ghost use Rattle.tt_plain.specs.law.Goes.{RepliesStandAtEnds};
+ghost use Rattle.tt_plain.specs.law.Past.{SoundEffectsKeepHorizons, SoundEffectsKeepPast};
 ghost use Rattle.tt_plain.specs.law.Sound.{LegalIsSound, LegalStaysInTime};
 
 /// After a legal history the clock is within the days of the calendar, but for a millisecond for each entry.
@@ -14,32 +15,23 @@ pub fn replies_stand_at_ends()
     ensures { RepliesStandAtEnds }
 {}
 
-ghost use Rattle.tt_plain.specs.law.Changes.{SoundEffectsKeepSound};
-
 /// An effect whose changes are sound keeps the store sound.
 pub fn sound_effects_keep_sound()
     ensures { SoundEffectsKeepSound }
 {}
 
-ghost use Rattle.tt_plain.specs.law.Changes.{EntriesAreSound, KindIsSound};
-ghost use Rattle.tt_plain.specs.law.Kinds.{BeginsVersions, ChangesNoTable, IsOfWorker};
-
-/// The entries of these kinds keep a sound store sound.
-pub fn entries_keep_sound()
-    ensures of_sessions { KindIsSound ChangesNoTable }
-    ensures of_versions { KindIsSound BeginsVersions }
-    ensures of_workers { KindIsSound IsOfWorker }
-{}
-
-/// Where each entry keeps a sound store sound, the store to which a legal history leads is sound.
-pub fn legal_histories_are_sound_if_entries_are()
-    ensures { EntriesAreSound → LegalIsSound }
-{}
-
-ghost use Rattle.tt_plain.specs.law.Past.{SoundEffectsKeepHorizons, SoundEffectsKeepPast};
-
 /// An effect whose changes are sound leaves the rows and the layouts of each moment that is past, and no horizon falls.
 pub fn sound_effects_keep_the_past()
     ensures past { SoundEffectsKeepPast }
     ensures horizons { SoundEffectsKeepHorizons }
+{}
+
+/// The changes of each entry that is allowed in a sound store are sound.
+pub fn entries_are_sound()
+    ensures { EntriesAreSound }
+{}
+
+/// The store to which a legal history leads is sound.
+pub fn legal_histories_are_sound()
+    ensures { LegalIsSound }
 {}

@@ -3,12 +3,12 @@ use Rattle.std.specs.Prelude.{Err, None, Option, Result, Some, [], is_none, refl
 use Rattle.std.proofs.Common.{ap, subst, sym, ◌∙◌}
 use Rattle.std.proofs.lemmas.Bool.{and_parts}
 use Rattle.tt_history.specs.declared.history.Actor.{Actor}
-use Rattle.tt_history.specs.declared.history.Entry.{Entry}
 use Rattle.tt_history.specs.declared.history.EntryKind.{EntryKind}
 use Rattle.tt_plain.proofs.Answers.{bind_some, only_if_some}
 use Rattle.tt_plain.proofs.Tests.{none_is, same_number}
 use Rattle.tt_plain.proofs.law.Alone.{IsDue, IsSaid}
 use Rattle.tt_plain.proofs.law.Commits.{commit_sound}
+use Rattle.tt_plain.proofs.law.Definitions.{define_sound}
 use Rattle.tt_plain.proofs.law.Ends.{end_sound}
 use Rattle.tt_plain.proofs.law.Gives.{Gives, gives_at, gives_bind, gives_or, gives_tested}
 use Rattle.tt_plain.proofs.law.Plainly.{SoundIn, abandon_sound, begin_sound, report_sound, rollback_sound, rolled_back_sound, wait_sound}
@@ -24,8 +24,7 @@ use Rattle.tt_plain.specs.declared.store.PlainSession.{PlainSession}
 use Rattle.tt_plain.specs.effect.Effect.{Effect}
 use Rattle.tt_plain.specs.effect.Rollback.{closing_effect, has_ended_statements, rollback_effect}
 use Rattle.tt_plain.specs.history.Step.{actor_entry, effect_of, of_next, of_open, purge_entry, round_entry, session_entry}
-use Rattle.tt_plain.specs.law.Changes.{IsSoundEffect, IsSoundEntry, KindIsSound}
-use Rattle.tt_plain.specs.law.Kinds.{BeginsVersions, ChangesNoTable, IsOfWorker}
+use Rattle.tt_plain.specs.law.Changes.{EntriesAreSound, IsSoundEffect}
 use Rattle.tt_plain.specs.law.Sound.{IsSound}
 use Rattle.tt_plain.specs.stored.Points.{count_in}
 use Rattle.tt_plain.specs.stored.Sessions.{new_session, session_at}
@@ -75,86 +74,42 @@ module _ (carried : Carried) (program : Script) (store : Plain) (session index :
       let ended = and_parts (is_none state.running) (state.done == count_in (slice_get program.sessions session)) (and_parts (has_ended_statements program session state) (index == state.done + 1) test).0 in
       rolled_back_sound carried (asked_with program store session index (Err 0)) (due_of state (Err 0) at) state [] None (none_is state.running ended.0))))
 
-  plain_sound : (k : EntryKind) → ChangesNoTable k → Gives Sound (session_entry carried program store session index k)
+  session_sound : (k : EntryKind) → Gives Sound (session_entry carried program store session index k)
   unfolding session_entry
-  plain_sound (kind.Begin t) is = next_sound _ (λ read due said idle. begin_sound carried (asked_with program store session index read) due t idle)
-  plain_sound (kind.Wait t) is = next_sound _ (λ read due said idle. wait_sound carried (asked_with program store session index read) due t idle)
-  plain_sound (kind.Report t numbers) is = next_sound _ (λ read due said idle. report_sound carried (asked_with program store session index read) due t numbers idle)
-  plain_sound (kind.Abandon t) is = open_sound _ (λ read seen due said running. abandon_sound carried (asked_with program store session index read) due seen t running)
-  plain_sound kind.Rollback is =
+  session_sound (kind.Begin t) = next_sound _ (λ read due said idle. begin_sound carried (asked_with program store session index read) due t idle)
+  session_sound (kind.Start t) = next_sound _ (λ read due said idle. start_sound carried (asked_with program store session index read) due said t idle)
+  session_sound (kind.End gone added) = open_sound _ (λ read seen due said running. end_sound carried (asked_with program store session index read) due said seen running gone added)
+  session_sound (kind.Abandon t) = open_sound _ (λ read seen due said running. abandon_sound carried (asked_with program store session index read) due seen t running)
+  session_sound (kind.Commit t) = next_sound _ (λ read due said idle. commit_sound carried (asked_with program store session index read) due t idle)
+  session_sound kind.Rollback =
       gives_or Sound (of_next carried program store session index rollback_effect) (closing_effect program store session index)
       (next_sound rollback_effect (λ read due said idle. rollback_sound carried (asked_with program store session index read) due idle)) closing_sound
-  plain_sound (kind.Start t) is = next_sound _ (λ read due said idle. start_sound carried (asked_with program store session index read) due said t idle)
-  plain_sound (kind.End gone added) is = absurd is
-  plain_sound (kind.Commit t) is = absurd is
-  plain_sound (kind.Define t) is = absurd is
-  plain_sound (kind.RecluStart table parts) is = tt
-  plain_sound (kind.RecluEnd table gone added) is = tt
-  plain_sound (kind.RecluMiss table why) is = tt
-  plain_sound (kind.Purge parts) is = tt
-  plain_sound kind.Close is = tt
+  session_sound (kind.Define t) = next_sound _ (λ read due said idle. define_sound carried (asked_with program store session index read) due t idle)
+  session_sound (kind.Wait t) = next_sound _ (λ read due said idle. wait_sound carried (asked_with program store session index read) due t idle)
+  session_sound (kind.Report t numbers) = next_sound _ (λ read due said idle. report_sound carried (asked_with program store session index read) due t numbers idle)
+  session_sound (kind.RecluStart table parts) = tt
+  session_sound (kind.RecluEnd table gone added) = tt
+  session_sound (kind.RecluMiss table why) = tt
+  session_sound (kind.Purge parts) = tt
+  session_sound kind.Close = tt
 
-  version_sound : (k : EntryKind) → BeginsVersions k → Gives Sound (session_entry carried program store session index k)
-  unfolding session_entry
-  version_sound (kind.End gone added) is = open_sound _ (λ read seen due said running. end_sound carried (asked_with program store session index read) due said seen running gone added)
-  version_sound (kind.Commit t) is = next_sound _ (λ read due said idle. commit_sound carried (asked_with program store session index read) due t idle)
-  version_sound _ is = absurd is
-
--- ---- entries of workers
-
-worker_kind : (carried : Carried) (program : Script) (store : Plain) (actor_of : Actor) (index : ℕ) (k : EntryKind) → IsSound carried program store → IsOfWorker k → Gives (SoundIn carried program store) (actor_entry carried program store actor_of index k)
-unfolding session_entry round_entry purge_entry
-worker_kind carried program store (actor.Session session) index (kind.RecluStart table parts) sound is = tt
-worker_kind carried program store (actor.Session session) index (kind.RecluEnd table gone added) sound is = tt
-worker_kind carried program store (actor.Session session) index (kind.RecluMiss table why) sound is = tt
-worker_kind carried program store (actor.Session session) index (kind.Purge parts) sound is = tt
-worker_kind carried program store (actor.Session session) index kind.Close sound is = tt
-worker_kind carried program store actor.Recluster index (kind.RecluStart table parts) sound is = round_start_sound carried program store sound index table parts
-worker_kind carried program store actor.Recluster index (kind.RecluEnd table gone added) sound is = round_end_sound carried program store sound index table gone added
-worker_kind carried program store actor.Recluster index (kind.RecluMiss table why) sound is = round_miss_sound carried program store sound index table why
-worker_kind carried program store actor.Recluster index _ sound is = tt
-worker_kind carried program store actor.Purge index (kind.Purge parts) sound is = purge_sound carried program store sound index parts
-worker_kind carried program store actor.Purge index _ sound is = tt
-worker_kind carried program store (actor.Session session) index _ sound is = absurd is
-
-plain_kind : (carried : Carried) (program : Script) (store : Plain) (actor_of : Actor) (index : ℕ) (k : EntryKind) → IsSound carried program store → ChangesNoTable k → Gives (SoundIn carried program store) (actor_entry carried program store actor_of index k)
+actor_sound : (carried : Carried) (program : Script) (store : Plain) (actor_of : Actor) (index : ℕ) (k : EntryKind) → IsSound carried program store → Gives (SoundIn carried program store) (actor_entry carried program store actor_of index k)
 unfolding round_entry purge_entry
-plain_kind carried program store (actor.Session session) index k sound is = plain_sound carried program store session index sound k is
-plain_kind carried program store actor.Recluster index (kind.RecluStart table parts) sound is = absurd is
-plain_kind carried program store actor.Recluster index (kind.RecluEnd table gone added) sound is = absurd is
-plain_kind carried program store actor.Recluster index (kind.RecluMiss table why) sound is = absurd is
-plain_kind carried program store actor.Recluster index _ sound is = tt
-plain_kind carried program store actor.Purge index (kind.Purge parts) sound is = absurd is
-plain_kind carried program store actor.Purge index _ sound is = tt
-
-version_kind : (carried : Carried) (program : Script) (store : Plain) (actor_of : Actor) (index : ℕ) (k : EntryKind) → IsSound carried program store → BeginsVersions k → Gives (SoundIn carried program store) (actor_entry carried program store actor_of index k)
-unfolding round_entry purge_entry
-version_kind carried program store (actor.Session session) index k sound is = version_sound carried program store session index sound k is
-version_kind carried program store actor.Recluster index (kind.End gone added) sound is = tt
-version_kind carried program store actor.Recluster index (kind.Commit t) sound is = tt
-version_kind carried program store actor.Recluster index _ sound is = absurd is
-version_kind carried program store actor.Purge index (kind.End gone added) sound is = tt
-version_kind carried program store actor.Purge index (kind.Commit t) sound is = tt
-version_kind carried program store actor.Purge index _ sound is = absurd is
+actor_sound carried program store (actor.Session session) index k sound = session_sound carried program store session index sound k
+actor_sound carried program store actor.Recluster index (kind.RecluStart table parts) sound = round_start_sound carried program store sound index table parts
+actor_sound carried program store actor.Recluster index (kind.RecluEnd table gone added) sound = round_end_sound carried program store sound index table gone added
+actor_sound carried program store actor.Recluster index (kind.RecluMiss table why) sound = round_miss_sound carried program store sound index table why
+actor_sound carried program store actor.Recluster index _ sound = tt
+actor_sound carried program store actor.Purge index (kind.Purge parts) sound = purge_sound carried program store sound index parts
+actor_sound carried program store actor.Purge index _ sound = tt
 
 -- ---- whole entries
 
-entry_sound : (carried : Carried) (program : Script) (store : Plain) (entry : Entry) → Gives (SoundIn carried program store) (actor_entry carried program store entry.actor entry.index entry.kind) → IsSoundEntry carried program store entry
+pub entries_sound : EntriesAreSound
 unfolding effect_of
-entry_sound carried program store entry gives effect sound time e =
+entries_sound carried program store entry effect sound time e =
     let found = bind_some (actor_entry carried program store entry.actor entry.index entry.kind) _ effect e in
     let same = only_if_some (found.0.moment == entry.moment) found.0 effect found.2 in
-    let there : SoundIn carried program store found.0 = gives_at (SoundIn carried program store) (actor_entry carried program store entry.actor entry.index entry.kind) found.0 gives found.1 in
+    let there : SoundIn carried program store found.0 =
+    gives_at (SoundIn carried program store) (actor_entry carried program store entry.actor entry.index entry.kind) found.0 (actor_sound carried program store entry.actor entry.index entry.kind sound) found.1 in
     subst (IsSoundEffect carried program store) same.1 (there (subst (λ (m : ℕ). m < 2 ^ 62) (sym (same_number found.0.moment entry.moment same.0)) time))
-
-pub plain_entries : KindIsSound ChangesNoTable
-plain_entries carried program store entry is effect sound time e =
-    entry_sound carried program store entry (plain_kind carried program store entry.actor entry.index entry.kind sound is) effect sound time e
-
-pub worker_entries : KindIsSound IsOfWorker
-worker_entries carried program store entry is effect sound time e =
-    entry_sound carried program store entry (worker_kind carried program store entry.actor entry.index entry.kind sound is) effect sound time e
-
-pub version_entries : KindIsSound BeginsVersions
-version_entries carried program store entry is effect sound time e =
-    entry_sound carried program store entry (version_kind carried program store entry.actor entry.index entry.kind sound is) effect sound time e

@@ -1,4 +1,4 @@
--- Where each entry keeps the store sound, each legal history leads to a sound store.
+-- Each legal history leads to a sound store.
 use Rattle.std.specs.Prelude.{List, None, Option, Some, [], codes, decimal, flat_map, length, map, refl, slice_get, true, ℕ, ◌++◌, ◌+◌, ◌<◌, ◌==◌, ◌^◌, ◌∷◌, ◌≡◌, ◌≤◌}
 use Rattle.std.proofs.Common.{ap, arith, length-append, subst, suc, sym, zero, ◌∙◌}
 use Rattle.std.proofs.lemmas.Bool.{false≢true}
@@ -11,6 +11,7 @@ use Rattle.tt_plain.proofs.Answers.{bind_some, map_some, only_if_some}
 use Rattle.tt_plain.proofs.Tests.{same_number}
 use Rattle.tt_plain.proofs.law.Applied.{effects_keep_sound}
 use Rattle.tt_plain.proofs.law.Clock.{replay_none, step_moment}
+use Rattle.tt_plain.proofs.law.Entries.{entries_sound}
 use Rattle.tt_plain.specs.Answers.{◌>>=◌}
 use Rattle.tt_plain.specs.asked.Carried.{Carried}
 use Rattle.tt_plain.specs.declared.store.Plain.{Plain}
@@ -104,3 +105,6 @@ pub legal_if_entries : EntriesAreSound → LegalIsSound
 unfolding replay_of empty_store
 legal_if_entries each carried program history run time e =
     run_sound carried program (empty_store program, []) run 0 history each (empty_sound carried program) (omega (arith, time.0)) (omega (arith, time.1)) e
+
+pub legal_sound : LegalIsSound
+legal_sound carried program history run time e = legal_if_entries entries_sound carried program history run time e

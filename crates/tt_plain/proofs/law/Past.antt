@@ -76,7 +76,7 @@ if_becomes : (moment : ℕ) (test : Bool) (f : PlainTable → PlainTable) (table
 if_becomes moment true f table order becomes = becomes
 if_becomes moment false f table order becomes = same_past moment table table order refl refl
 
-get_push : {A : Type 0} (xs : List A) (place : ℕ) (x y : A) → slice_get xs place ≡ Some x → slice_get (xs ++ y ∷ []) place ≡ Some x
+pub get_push : {A : Type 0} (xs : List A) (place : ℕ) (x y : A) → slice_get xs place ≡ Some x → slice_get (xs ++ y ∷ []) place ≡ Some x
 get_push [] place x y e = absurd (none-some x e)
 get_push (z ∷ xs) zero x y e = e
 get_push (z ∷ xs) (suc place) x y e = get_push xs place x y e

@@ -1,7 +1,6 @@
 -- When a change keeps the store sound: a small condition for each, which each entry's effect has to meet.
 use Rattle.std.specs.Prelude.{List, Some, [], filter, length, map, true, ℕ, ⊤, ◌+◌, ◌<◌, ◌^◌, ◌∷◌, ◌≡◌, ◌≢◌, ◌≤◌}
 use Rattle.tt_history.specs.declared.history.Entry.{Entry}
-use Rattle.tt_history.specs.declared.history.EntryKind.{EntryKind}
 use Rattle.tt_layout.specs.Numbers.{IsAscending}
 use Rattle.tt_plain.specs.asked.Carried.{Carried}
 use Rattle.tt_plain.specs.declared.store.Plain.{Plain}
@@ -69,19 +68,12 @@ pub record IsSoundEffect (carried : Carried) (program : Script) (store : Plain) 
   pub each : AreSoundSessions carried program (applied store effect).tables (applied store effect).sessions
   pub holders : (table : ℕ) → HaveOneHolder (applied store effect).sessions table
 
--- an entry that is allowed in a sound store has such an effect, within the moments that regimes have
-abbrev pub IsSoundEntry : Carried → Script → Plain → Entry → Type 0
-IsSoundEntry carried program store entry = (effect : Effect) → IsSound carried program store → entry.moment < 2 ^ 62 →
-    effect_of carried program store entry ≡ Some effect → IsSoundEffect carried program store effect
-
--- so it is with each entry of a kind
-abbrev pub KindIsSound : (EntryKind → Type 0) → Type 0
-KindIsSound IsKind = (carried : Carried) (program : Script) (store : Plain) (entry : Entry) → IsKind entry.kind → IsSoundEntry carried program store entry
-
--- the laws, to be proved: such an effect keeps the store sound, and each entry that is allowed has such an effect
+-- the laws: such an effect keeps the store sound, and each entry that is allowed has such an effect
 abbrev pub SoundEffectsKeepSound : Type 0
 SoundEffectsKeepSound = (carried : Carried) (program : Script) (store : Plain) (effect : Effect) → IsSound carried program store →
     IsSoundEffect carried program store effect → IsSound carried program (applied store effect)
 
+-- within the moments that regimes have
 abbrev pub EntriesAreSound : Type 0
-EntriesAreSound = (carried : Carried) (program : Script) (store : Plain) (entry : Entry) → IsSoundEntry carried program store entry
+EntriesAreSound = (carried : Carried) (program : Script) (store : Plain) (entry : Entry) (effect : Effect) → IsSound carried program store →
+    entry.moment < 2 ^ 62 → effect_of carried program store entry ≡ Some effect → IsSoundEffect carried program store effect

@@ -168,7 +168,7 @@ pub record IsSound (carried : Carried) (program : Script) (store : Plain) : Type
 abbrev pub IsInTime : Script → List Entry → Type 0
 IsInTime program history = (program.start ≤ last_moment) × (last_moment + length history < 2 ^ 62)
 
--- the law, to be proved: a legal history leads to a sound store
+-- the law: a legal history leads to a sound store
 abbrev pub LegalIsSound : Type 0
 LegalIsSound = (carried : Carried) (program : Script) (history : List Entry) (run : Run) → IsInTime program history →
     replay_of carried program history ≡ Some run → IsSound carried program run.0
