@@ -10,6 +10,7 @@ pub mod Entries
 pub mod Free
 pub mod Gives
 pub mod Histories
+pub mod LastEntry
 pub mod Lists
 pub mod Makes
 pub mod Marks

@@ -2,7 +2,7 @@
 
 ghost use Rattle.tt_plain.specs.law.Changes.{EntriesAreSound, SoundEffectsKeepSound};
 ghost use Rattle.tt_plain.specs.law.Goes.{RepliesStandAtEnds};
-ghost use Rattle.tt_plain.specs.law.Past.{SoundEffectsKeepHorizons, SoundEffectsKeepPast};
+ghost use Rattle.tt_plain.specs.law.Past.{HorizonStays, PastStays, SoundEffectsKeepHorizons, SoundEffectsKeepPast};
 ghost use Rattle.tt_plain.specs.law.Sound.{LegalIsSound, LegalStaysInTime};
 
 /// After a legal history the clock is within the days of the calendar, but for a millisecond for each entry.
@@ -34,4 +34,10 @@ pub fn entries_are_sound()
 /// The store to which a legal history leads is sound.
 pub fn legal_histories_are_sound()
     ensures { LegalIsSound }
+{}
+
+/// An entry of a legal history leaves the rows and the layouts of each moment that is past, and no horizon falls.
+pub fn legal_histories_keep_the_past()
+    ensures past { PastStays }
+    ensures horizons { HorizonStays }
 {}

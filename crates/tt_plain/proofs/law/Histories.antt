@@ -65,7 +65,7 @@ empty_sound carried program = record {
           length-map-range_with_len (λ (index : ℕ). first.name ++ codes "-" ++ decimal index) 1 (length first.statements),
         )
 
-effect_moment : (carried : Carried) (program : Script) (store : Plain) (entry : Entry) (effect : Effect) → effect_of carried program store entry ≡ Some effect → effect.moment ≡ entry.moment
+pub effect_moment : (carried : Carried) (program : Script) (store : Plain) (entry : Entry) (effect : Effect) → effect_of carried program store entry ≡ Some effect → effect.moment ≡ entry.moment
 unfolding effect_of
 effect_moment carried program store entry effect e =
     let found = bind_some (actor_entry carried program store entry.actor entry.index entry.kind) _ effect e in
@@ -108,3 +108,7 @@ legal_if_entries each carried program history run time e =
 
 pub legal_sound : LegalIsSound
 legal_sound carried program history run time e = legal_if_entries entries_sound carried program history run time e
+
+pub applied_moment : (store : Plain) (effect : Effect) → (applied store effect).moment ≡ effect.moment
+unfolding applied
+applied_moment store effect = refl
