@@ -13,7 +13,6 @@ use Rattle.tt_plain.specs.effect.Apply.{applied, changed_point, changed_session,
 use Rattle.tt_plain.specs.effect.Effect.{Dropped, Made, NewKey, NewRegime, NewVersion, Renamed, Suspended, TableChange, Undropped}
 use Rattle.tt_plain.specs.law.Changes.{AreSoundTableChanges, IsSoundTableChange, SoundEffectsKeepSound}
 use Rattle.tt_plain.specs.law.Sound.{AreSoundTables, HaveOwnNames, IsKeyOf, IsSoundTable}
-use Rattle.tt_plain.specs.refusal.LockHeld.{holders}
 use Rattle.tt_plain.specs.stored.Tables.{is_live}
 use Rattle.tt_retain.specs.Retention.{with_regime}
 

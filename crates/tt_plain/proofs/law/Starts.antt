@@ -21,7 +21,6 @@ use Rattle.tt_plain.specs.declared.store.PlainSession.{PlainSession}
 use Rattle.tt_plain.specs.declared.store.PlainTable.{PlainTable}
 use Rattle.tt_plain.specs.declared.tally.TallyPin.{TallyPin}
 use Rattle.tt_plain.specs.effect.Effect.{Effect}
-use Rattle.tt_plain.specs.effect.End.{kept}
 use Rattle.tt_plain.specs.effect.Ending.{memory_effect}
 use Rattle.tt_plain.specs.effect.Start.{begun, begun_by, start_effect}
 use Rattle.tt_plain.specs.law.Lists.{Every}

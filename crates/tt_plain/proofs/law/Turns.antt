@@ -1,12 +1,12 @@
 -- An entry of a session's next statement, and of its open one: what is asked by it.
-use Rattle.std.specs.Prelude.{None, Option, Result, Some, is_none, refl, slice_get, true, ℕ, ◌&&◌, ◌+◌, ◌==◌, ◌≡◌}
+use Rattle.std.specs.Prelude.{None, Option, Result, Some, is_none, slice_get, true, ℕ, ◌+◌, ◌==◌, ◌≡◌}
 use Rattle.std.proofs.lemmas.Bool.{and_parts}
 use Rattle.tt_script.specs.declared.script.Script.{Script}
 use Rattle.tt_sql.specs.declared.statement.Statement.{Statement}
 use Rattle.tt_plain.specs.declared.store.Plain.{Plain}
 use Rattle.tt_plain.specs.declared.store.PlainOpen.{PlainOpen}
 use Rattle.tt_plain.specs.declared.store.PlainSession.{PlainSession}
-use Rattle.tt_plain.specs.Answers.{only_if, ◌>>=◌}
+use Rattle.tt_plain.specs.Answers.{◌>>=◌}
 use Rattle.tt_plain.specs.asked.Asked.{Asked, request_asked, state_asked}
 use Rattle.tt_plain.specs.asked.Carried.{Carried}
 use Rattle.tt_plain.specs.asked.Event.{Event, first_event, is_same_event}

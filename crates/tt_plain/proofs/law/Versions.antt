@@ -17,7 +17,6 @@ use Rattle.tt_plain.specs.declared.store.PlainTable.{PlainTable}
 use Rattle.tt_plain.specs.effect.Apply.{applied, changed_table, with_table, with_version}
 use Rattle.tt_plain.specs.effect.Commit.{version_begun, version_committed}
 use Rattle.tt_plain.specs.effect.Effect.{NewVersion, TableChange}
-use Rattle.tt_plain.specs.effect.End.{kept}
 use Rattle.tt_plain.specs.law.Changes.{AreSoundTableChanges, AreSoundTallyChanges, IsSoundEffect}
 use Rattle.tt_plain.specs.law.Lists.{Every}
 use Rattle.tt_plain.specs.law.Sound.{AreRowsOf, IsSoundMark, IsSoundPending, IsSoundSession}

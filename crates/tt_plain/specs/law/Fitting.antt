@@ -13,7 +13,6 @@ use Rattle.tt_plain.specs.law.Lists.{Every}
 use Rattle.tt_plain.specs.law.Sound.{IsInTime, IsThere}
 use Rattle.tt_script.specs.declared.script.Script.{Script}
 
-
 pub record HasFittingRows (table : PlainTable) : Type 0 where
   pub fit : Every (λ (version : Version). Every (IsRowOf table.schema) version.rows) table.versions
 

@@ -17,7 +17,6 @@ use Rattle.tt_script.specs.declared.script.Script.{Script}
 use Rattle.tt_value.specs.declared.value.Row.{Row}
 use Rattle.tt_value.specs.values.Bags.{bag_minus, bag_plus}
 
-
 -- each row is among others, with its copies
 abbrev pub AreAmong : List Row → List Row → Type 0
 AreAmong rows others = bag_minus rows others ≡ []

@@ -12,7 +12,6 @@ use Rattle.tt_plain.specs.tally.Facts.{is_named_at}
 use Rattle.tt_plain.specs.tally.Parts.{is_stored}
 use Rattle.tt_script.specs.declared.script.Script.{Script}
 
-
 abbrev pub AreStored : Tally → List ℕ → Type 0
 AreStored tally numbers = Every (λ number. is_stored tally number ≡ true) numbers
 
