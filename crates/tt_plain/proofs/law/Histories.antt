@@ -9,9 +9,9 @@ use Rattle.tt_history.specs.declared.history.Entry.{Entry}
 use Rattle.tt_history.specs.declared.reply.Reply.{Reply}
 use Rattle.tt_plain.proofs.Answers.{bind_some, map_some, only_if_some}
 use Rattle.tt_plain.proofs.Tests.{same_number}
-use Rattle.tt_plain.proofs.law.Applied.{effects_keep_sound}
+use Rattle.tt_plain.proofs.law.change.Applied.{effects_keep_sound}
 use Rattle.tt_plain.proofs.law.Clock.{replay_none, step_moment}
-use Rattle.tt_plain.proofs.law.Entries.{entries_sound}
+use Rattle.tt_plain.proofs.law.entry.Entries.{entries_sound}
 use Rattle.tt_plain.specs.Answers.{◌>>=◌}
 use Rattle.tt_plain.specs.asked.Carried.{Carried}
 use Rattle.tt_plain.specs.declared.store.Plain.{Plain}

@@ -7,7 +7,7 @@ use Rattle.tt_history.specs.declared.history.Entry.{Entry}
 use Rattle.tt_history.specs.declared.reply.Reply.{Reply}
 use Rattle.tt_plain.proofs.Answers.{bind_some, map_some}
 use Rattle.tt_plain.proofs.law.Clock.{legal_in_time, replay_none}
-use Rattle.tt_plain.proofs.law.Entries.{entries_sound}
+use Rattle.tt_plain.proofs.law.entry.Entries.{entries_sound}
 use Rattle.tt_plain.proofs.law.Histories.{applied_moment, effect_moment, legal_sound}
 use Rattle.tt_plain.proofs.law.Past.{keeps_horizons, keeps_past}
 use Rattle.tt_plain.specs.Answers.{◌>>=◌}

@@ -6,9 +6,9 @@ use Rattle.std.proofs.Common.{ap, arith, cond, length-set, le→leb, subst, suc,
 use Rattle.std.proofs.lemmas.Bool.{lt-leb}
 use Rattle.std.proofs.lemmas.List.{length_push}
 use Rattle.std.proofs.lemmas.Option.{none-some, same_Some}
-use Rattle.tt_plain.proofs.law.Applied.{Stand, change_keeps}
-use Rattle.tt_plain.proofs.law.Tables.{table_at, tables_later}
-use Rattle.tt_plain.proofs.law.Versions.{get_map}
+use Rattle.tt_plain.proofs.law.change.Applied.{Stand, change_keeps}
+use Rattle.tt_plain.proofs.law.change.Tables.{table_at, tables_later}
+use Rattle.tt_plain.proofs.law.session.Versions.{get_map}
 use Rattle.tt_plain.specs.asked.Carried.{Carried}
 use Rattle.tt_plain.specs.declared.store.Plain.{Plain}
 use Rattle.tt_plain.specs.declared.store.PlainTable.{PlainTable}

@@ -1,4 +1,4 @@
-use Rattle.tt_plain.proofs.law.Applied.{effects_keep_sound}
+use Rattle.tt_plain.proofs.law.change.Applied.{effects_keep_sound}
 use Rattle.tt_plain.proofs.store_laws.sound_effects_keep_sound.Goals as goal
 
 pub returns : goal.returns

@@ -1,4 +1,4 @@
--- Each entry of a kind keeps the store sound.
+-- Each entry that is allowed keeps the store sound.
 use Rattle.std.specs.Prelude.{Err, None, Option, Result, Some, [], is_none, refl, slice_get, unwrap_or, ℕ, ◌&&◌, ◌+◌, ◌<◌, ◌==◌, ◌^◌, ◌≡◌}
 use Rattle.std.proofs.Common.{ap, subst, sym, ◌∙◌}
 use Rattle.std.proofs.lemmas.Bool.{and_parts}
@@ -6,14 +6,14 @@ use Rattle.tt_history.specs.declared.history.Actor.{Actor}
 use Rattle.tt_history.specs.declared.history.EntryKind.{EntryKind}
 use Rattle.tt_plain.proofs.Answers.{bind_some, only_if_some}
 use Rattle.tt_plain.proofs.Tests.{none_is, same_number}
-use Rattle.tt_plain.proofs.law.Alone.{IsDue, IsSaid}
-use Rattle.tt_plain.proofs.law.Commits.{commit_sound}
-use Rattle.tt_plain.proofs.law.Definitions.{define_sound}
-use Rattle.tt_plain.proofs.law.Ends.{end_sound}
+use Rattle.tt_plain.proofs.law.session.Alone.{IsDue, IsSaid}
+use Rattle.tt_plain.proofs.law.entry.Commits.{commit_sound}
+use Rattle.tt_plain.proofs.law.entry.Definitions.{define_sound}
+use Rattle.tt_plain.proofs.law.entry.Ends.{end_sound}
 use Rattle.tt_plain.proofs.law.Gives.{Gives, gives_at, gives_bind, gives_or, gives_tested}
-use Rattle.tt_plain.proofs.law.Plainly.{SoundIn, abandon_sound, begin_sound, report_sound, rollback_sound, rolled_back_sound, wait_sound}
-use Rattle.tt_plain.proofs.law.Rounds.{purge_sound, round_end_sound, round_miss_sound, round_start_sound}
-use Rattle.tt_plain.proofs.law.Starts.{start_sound}
+use Rattle.tt_plain.proofs.law.entry.SessionAlone.{SoundIn, abandon_sound, begin_sound, report_sound, rollback_sound, rolled_back_sound, wait_sound}
+use Rattle.tt_plain.proofs.law.entry.Rounds.{purge_sound, round_end_sound, round_miss_sound, round_start_sound}
+use Rattle.tt_plain.proofs.law.entry.Starts.{start_sound}
 use Rattle.tt_plain.proofs.law.Turns.{next_gives, open_gives}
 use Rattle.tt_plain.specs.asked.Asked.{Asked}
 use Rattle.tt_plain.specs.asked.Carried.{Carried}

@@ -4,9 +4,9 @@ use Rattle.std.proofs.Common.{ap, arith, inl, inr, subst, suc, sym, zero, ◌∙
 use Rattle.std.proofs.lemmas.List.{length-map}
 use Rattle.std.proofs.lemmas.Option.{none-some, same_Some}
 use Rattle.tt_history.specs.declared.reply.Reply.{Reply}
-use Rattle.tt_plain.proofs.law.Alone.{IsDue, StandsAlone, holders_set, set_at}
+use Rattle.tt_plain.proofs.law.session.Alone.{IsDue, StandsAlone, holders_set, set_at}
 use Rattle.tt_plain.proofs.law.Lists.{every-append, every_on}
-use Rattle.tt_plain.proofs.law.Views.{with_bag}
+use Rattle.tt_plain.proofs.law.session.Views.{with_bag}
 use Rattle.tt_plain.specs.asked.Asked.{Asked}
 use Rattle.tt_plain.specs.asked.Carried.{Carried}
 use Rattle.tt_plain.specs.declared.store.Plain.{Plain}

@@ -4,14 +4,14 @@ use Rattle.std.proofs.Common.{append_assoc, arith, subst, sym}
 use Rattle.std.proofs.lemmas.Bool.{false≢true}
 use Rattle.tt_history.specs.declared.history.Told.{Told}
 use Rattle.tt_history.specs.declared.reply.Reply.{Reply}
-use Rattle.tt_plain.proofs.law.Alone.{IsDue, no_more_marks}
+use Rattle.tt_plain.proofs.law.session.Alone.{IsDue, no_more_marks}
 use Rattle.tt_plain.proofs.law.Gives.{Gives}
 use Rattle.tt_plain.proofs.law.Lists.{every-filter}
-use Rattle.tt_plain.proofs.law.Plainly.{SoundIn, memory_sound, no_transaction}
-use Rattle.tt_plain.proofs.law.Rounds.{begun_sound, same_many}
-use Rattle.tt_plain.proofs.law.TallyChanges.{tally_later}
+use Rattle.tt_plain.proofs.law.entry.SessionAlone.{SoundIn, memory_sound, no_transaction}
+use Rattle.tt_plain.proofs.law.entry.Rounds.{begun_sound, same_many}
+use Rattle.tt_plain.proofs.law.change.TallyChanges.{tally_later}
 use Rattle.tt_plain.proofs.law.Turns.{due_gives}
-use Rattle.tt_plain.proofs.law.Versions.{committed_versions, versions_effect}
+use Rattle.tt_plain.proofs.law.session.Versions.{committed_versions, versions_effect}
 use Rattle.tt_plain.specs.asked.Asked.{Asked, own_point, request_asked, state_asked}
 use Rattle.tt_plain.specs.asked.Carried.{Carried}
 use Rattle.tt_plain.specs.asked.Request.{Commits, Defines, Request}

@@ -6,13 +6,13 @@ use Rattle.std.proofs.lemmas.Bool.{false≢true, leb-true}
 use Rattle.std.proofs.lemmas.List.{length-map}
 use Rattle.std.proofs.lemmas.Option.{none-some, same_Some}
 use Rattle.tt_history.specs.declared.reply.Refusal.{Refusal}
-use Rattle.tt_plain.proofs.law.Alone.{IsDue, holders_set, no_more_marks, set_at, state_sound}
+use Rattle.tt_plain.proofs.law.session.Alone.{IsDue, holders_set, no_more_marks, set_at, state_sound}
 use Rattle.tt_plain.proofs.law.Lists.{every_on}
-use Rattle.tt_plain.proofs.law.Marks.{others_free}
-use Rattle.tt_plain.proofs.law.Plainly.{SoundIn, done_sound}
-use Rattle.tt_plain.proofs.law.Tables.{table_at}
-use Rattle.tt_plain.proofs.law.Versions.{get_map, session_over}
-use Rattle.tt_plain.proofs.law.Views.{IsTable, is_table}
+use Rattle.tt_plain.proofs.law.session.Marks.{others_free}
+use Rattle.tt_plain.proofs.law.entry.SessionAlone.{SoundIn, done_sound}
+use Rattle.tt_plain.proofs.law.change.Tables.{table_at}
+use Rattle.tt_plain.proofs.law.session.Versions.{get_map, session_over}
+use Rattle.tt_plain.proofs.law.session.Views.{IsTable, is_table}
 use Rattle.tt_plain.specs.Places.{earlier, leftmost}
 use Rattle.tt_plain.specs.asked.Asked.{Asked, state_asked}
 use Rattle.tt_plain.specs.asked.Carried.{Carried}

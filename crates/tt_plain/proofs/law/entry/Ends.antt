@@ -10,14 +10,14 @@ use Rattle.tt_layout.proofs.Ascending.{ascends-filter, ascends-joined}
 use Rattle.tt_layout.specs.Numbers.{IsAscending, has, without}
 use Rattle.tt_plain.proofs.Answers.{bind_some}
 use Rattle.tt_plain.proofs.Tests.{same_number}
-use Rattle.tt_plain.proofs.law.Alone.{IsDue, IsSaid, alone_sound, no_more_marks, state_sound}
+use Rattle.tt_plain.proofs.law.session.Alone.{IsDue, IsSaid, alone_sound, no_more_marks, state_sound}
 use Rattle.tt_plain.proofs.law.Gives.{Gives, gives_bind, gives_when}
 use Rattle.tt_plain.proofs.law.Lists.{every-append, every-filter, every_kept, every_on, two-append, two-filter}
-use Rattle.tt_plain.proofs.law.Plainly.{SoundIn}
-use Rattle.tt_plain.proofs.law.Rounds.{added_ascend, ascends, begun_sound, same_many}
-use Rattle.tt_plain.proofs.law.TallyChanges.{tally_later}
-use Rattle.tt_plain.proofs.law.Versions.{committed_version, versions_effect}
-use Rattle.tt_plain.proofs.law.Views.{every_found}
+use Rattle.tt_plain.proofs.law.entry.SessionAlone.{SoundIn}
+use Rattle.tt_plain.proofs.law.entry.Rounds.{added_ascend, ascends, begun_sound, same_many}
+use Rattle.tt_plain.proofs.law.change.TallyChanges.{tally_later}
+use Rattle.tt_plain.proofs.law.session.Versions.{committed_version, versions_effect}
+use Rattle.tt_plain.proofs.law.session.Views.{every_found}
 use Rattle.tt_plain.specs.Answers.{◌>>=◌}
 use Rattle.tt_plain.specs.asked.Asked.{Asked, request_asked, state_asked}
 use Rattle.tt_plain.specs.asked.Carried.{Carried}

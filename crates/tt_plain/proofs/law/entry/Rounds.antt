@@ -8,11 +8,11 @@ use Rattle.tt_history.specs.declared.history.Miss.{Miss}
 use Rattle.tt_layout.proofs.Ascending.{ascends-changed}
 use Rattle.tt_layout.proofs.ChainLaws.{current_ascends}
 use Rattle.tt_layout.specs.Numbers.{AscendsFrom, IsAscending}
-use Rattle.tt_plain.proofs.law.Alone.{worker_sound}
+use Rattle.tt_plain.proofs.law.session.Alone.{worker_sound}
 use Rattle.tt_plain.proofs.law.Gives.{Gives, gives_bind, gives_tested, gives_when}
 use Rattle.tt_plain.proofs.law.Lists.{every_at}
-use Rattle.tt_plain.proofs.law.Plainly.{SoundIn}
-use Rattle.tt_plain.proofs.law.TallyChanges.{next_numbers, tally_later}
+use Rattle.tt_plain.proofs.law.entry.SessionAlone.{SoundIn}
+use Rattle.tt_plain.proofs.law.change.TallyChanges.{next_numbers, tally_later}
 use Rattle.tt_plain.specs.asked.Carried.{Carried}
 use Rattle.tt_plain.specs.declared.store.Plain.{Plain}
 use Rattle.tt_plain.specs.declared.tally.Tally.{Tally}

@@ -9,7 +9,7 @@ use Rattle.tt_history.specs.declared.history.Told.{Told}
 use Rattle.tt_history.specs.declared.reply.Refusal.{Refusal}
 use Rattle.tt_history.specs.declared.reply.Reply.{Reply}
 use Rattle.tt_plain.proofs.Tests.{none_is, same_number}
-use Rattle.tt_plain.proofs.law.Alone.{IsDue, alone_sound, no_more_marks, state_sound}
+use Rattle.tt_plain.proofs.law.session.Alone.{IsDue, alone_sound, no_more_marks, state_sound}
 use Rattle.tt_plain.proofs.law.Gives.{Gives, gives_at, gives_bind, gives_if, gives_map, gives_tested}
 use Rattle.tt_plain.proofs.law.Lists.{every_on}
 use Rattle.tt_plain.proofs.law.Turns.{due_gives}

@@ -4,9 +4,9 @@ use Rattle.std.proofs.Common.{ap, arith, length-set, subst, sym, ◌∙◌}
 use Rattle.std.proofs.lemmas.Bool.{false≢true}
 use Rattle.std.proofs.lemmas.List.{length-map, length_push}
 use Rattle.std.proofs.lemmas.Option.{same_Some}
-use Rattle.tt_plain.proofs.law.Names.{IsQuiet, names-push, names-with, names_back}
-use Rattle.tt_plain.proofs.law.Tables.{keeps_dropped, keeps_regime, keeps_renamed, keeps_suspended, keeps_version, keys-map, tables-map, tables-push, tables-with, tables_later}
-use Rattle.tt_plain.proofs.law.TallyChanges.{tally_kept, tally_later}
+use Rattle.tt_plain.proofs.law.change.Names.{IsQuiet, names-push, names-with, names_back}
+use Rattle.tt_plain.proofs.law.change.Tables.{keeps_dropped, keeps_regime, keeps_renamed, keeps_suspended, keeps_version, keys-map, tables-map, tables-push, tables-with, tables_later}
+use Rattle.tt_plain.proofs.law.change.TallyChanges.{tally_kept, tally_later}
 use Rattle.tt_plain.specs.declared.store.PlainSession.{PlainSession}
 use Rattle.tt_plain.specs.declared.store.PlainTable.{PlainTable}
 use Rattle.tt_plain.specs.effect.Apply.{applied, changed_point, changed_session, changed_table, renamed, with_table, with_version}

@@ -4,13 +4,13 @@ use Rattle.std.proofs.Common.{ap, arith, inl, inr, subst, sym, ◌∙◌}
 use Rattle.std.proofs.lemmas.Bool.{false≢true}
 use Rattle.std.proofs.lemmas.Option.{none-some, same_Some}
 use Rattle.tt_history.specs.declared.history.Told.{Told}
-use Rattle.tt_plain.proofs.law.Alone.{IsDue, IsSaid, StandsAlone, alone_sound, no_more_marks, state_sound}
+use Rattle.tt_plain.proofs.law.session.Alone.{IsDue, IsSaid, StandsAlone, alone_sound, no_more_marks, state_sound}
 use Rattle.tt_plain.proofs.law.Free.{is_free}
 use Rattle.tt_plain.proofs.law.Gives.{Gives}
-use Rattle.tt_plain.proofs.law.Marks.{all_kept, exclusive_put, kept_put, marked_put, marks_put, others_free}
-use Rattle.tt_plain.proofs.law.Plainly.{SoundIn, memory_sound, told_sound}
+use Rattle.tt_plain.proofs.law.session.Marks.{all_kept, exclusive_put, kept_put, marked_put, marks_put, others_free}
+use Rattle.tt_plain.proofs.law.entry.SessionAlone.{SoundIn, memory_sound, told_sound}
 use Rattle.tt_plain.proofs.law.Turns.{due_gives}
-use Rattle.tt_plain.proofs.law.Views.{named, GoodPin, IsNamed, IsTable, change_pinned, sources_pinned, sources_rows, visible_bag}
+use Rattle.tt_plain.proofs.law.session.Views.{named, GoodPin, IsNamed, IsTable, change_pinned, sources_pinned, sources_rows, visible_bag}
 use Rattle.tt_plain.specs.Answers.{◌>>=◌}
 use Rattle.tt_plain.specs.Places.{if_there}
 use Rattle.tt_plain.specs.asked.Asked.{Asked, own_point, request_asked, state_asked, table_asked}

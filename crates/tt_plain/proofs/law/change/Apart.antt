@@ -3,7 +3,7 @@ use Rattle.std.specs.Prelude.{Bool, List, None, Some, [], false, filter, find, m
 use Rattle.std.proofs.Common.{ap, arith, cond, subst, suc, sym, zero, ◌∙◌}
 use Rattle.std.proofs.lemmas.Bool.{false≢true}
 use Rattle.std.proofs.lemmas.Option.{none-some, same_Some}
-use Rattle.tt_plain.proofs.law.Names.{Differ}
+use Rattle.tt_plain.proofs.law.change.Names.{Differ}
 use Rattle.tt_plain.specs.declared.store.PlainTable.{PlainTable}
 use Rattle.tt_plain.specs.law.Lists.{EachTwo, Every}
 use Rattle.tt_plain.specs.law.Sound.{HaveOwnNames}

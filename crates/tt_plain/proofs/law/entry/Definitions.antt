@@ -8,16 +8,16 @@ use Rattle.std.proofs.lemmas.Slice.Eq.{bytes_eq-Decides}
 use Rattle.tt_history.specs.declared.history.Told.{Told}
 use Rattle.tt_layout.specs.Numbers.{IsAscending}
 use Rattle.tt_plain.proofs.NamedColumns.{found_made, named_once}
-use Rattle.tt_plain.proofs.law.Alone.{IsDue}
-use Rattle.tt_plain.proofs.law.Defines.{drop_sound, key_sound, no_places, retention_sound, suspension_sound, truncate_sound}
+use Rattle.tt_plain.proofs.law.session.Alone.{IsDue}
+use Rattle.tt_plain.proofs.law.entry.Defines.{drop_sound, key_sound, no_places, retention_sound, suspension_sound, truncate_sound}
 use Rattle.tt_plain.proofs.law.Free.{IsFree, is_free}
 use Rattle.tt_plain.proofs.law.Gives.{Gives, gives_at, gives_bind, gives_map}
 use Rattle.tt_plain.proofs.law.Lists.{every-filter, every_from, every_kept}
-use Rattle.tt_plain.proofs.law.Makes.{clone_few, free_name, made_sound, new_table}
-use Rattle.tt_plain.proofs.law.Plainly.{SoundIn, memory_sound, told_sound}
-use Rattle.tt_plain.proofs.law.Renames.{rename_sound, swap_sound, undrop_sound}
+use Rattle.tt_plain.proofs.law.entry.Makes.{clone_few, free_name, made_sound, new_table}
+use Rattle.tt_plain.proofs.law.entry.SessionAlone.{SoundIn, memory_sound, told_sound}
+use Rattle.tt_plain.proofs.law.entry.Renames.{rename_sound, swap_sound, undrop_sound}
 use Rattle.tt_plain.proofs.law.Turns.{due_gives}
-use Rattle.tt_plain.proofs.law.Views.{named, is_table, seen_rows, source_ascends}
+use Rattle.tt_plain.proofs.law.session.Views.{named, is_table, seen_rows, source_ascends}
 use Rattle.tt_plain.specs.Places.{each, if_there}
 use Rattle.tt_plain.specs.WrongCounts.{defined_names, miscounted_columns, wrong_counts}
 use Rattle.tt_plain.specs.asked.Asked.{Asked, in_statement, request_asked, schemas_asked, state_asked, table_asked}

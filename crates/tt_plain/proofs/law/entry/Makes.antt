@@ -5,13 +5,13 @@ use Rattle.std.proofs.lemmas.Bool.{eq-eqb, false≢true}
 use Rattle.std.proofs.lemmas.List.{length-map, length_push}
 use Rattle.std.proofs.lemmas.Slice.Eq.{bytes_eq-Decides}
 use Rattle.tt_layout.specs.Numbers.{IsAscending}
-use Rattle.tt_plain.proofs.law.Alone.{IsDue}
-use Rattle.tt_plain.proofs.law.Apart.{apart_to, find_misses, free_from, get_unmap}
-use Rattle.tt_plain.proofs.law.Defines.{define_sound_by, drop_marks, marks_all_live, marks_live}
+use Rattle.tt_plain.proofs.law.session.Alone.{IsDue}
+use Rattle.tt_plain.proofs.law.change.Apart.{apart_to, find_misses, free_from, get_unmap}
+use Rattle.tt_plain.proofs.law.entry.Defines.{define_sound_by, drop_marks, marks_all_live, marks_live}
 use Rattle.tt_plain.proofs.law.Past.{get_push}
-use Rattle.tt_plain.proofs.law.Plainly.{SoundIn}
-use Rattle.tt_plain.proofs.law.Tables.{table_at}
-use Rattle.tt_plain.proofs.law.Views.{named, IsNamed}
+use Rattle.tt_plain.proofs.law.entry.SessionAlone.{SoundIn}
+use Rattle.tt_plain.proofs.law.change.Tables.{table_at}
+use Rattle.tt_plain.proofs.law.session.Views.{named, IsNamed}
 use Rattle.tt_plain.specs.ValueKinds.{IsFoundByName}
 use Rattle.tt_plain.specs.asked.Asked.{Asked, state_asked, table_asked}
 use Rattle.tt_plain.specs.asked.Carried.{Carried}

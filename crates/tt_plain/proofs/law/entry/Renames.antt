@@ -4,12 +4,12 @@ use Rattle.std.proofs.Common.{ap, arith, cond, sym, ◌∙◌}
 use Rattle.std.proofs.lemmas.Bool.{eq-eqb, false≢true}
 use Rattle.std.proofs.lemmas.List.{length-map}
 use Rattle.tt_plain.proofs.Tests.{same_number}
-use Rattle.tt_plain.proofs.law.Alone.{IsDue}
-use Rattle.tt_plain.proofs.law.Apart.{apart_from, apart_to, free_to, get_unmap}
-use Rattle.tt_plain.proofs.law.Defines.{define_sound_by, lives_map, lives_with, marks_all_live}
-use Rattle.tt_plain.proofs.law.Plainly.{SoundIn}
-use Rattle.tt_plain.proofs.law.Tables.{table_at}
-use Rattle.tt_plain.proofs.law.Views.{IsTable}
+use Rattle.tt_plain.proofs.law.session.Alone.{IsDue}
+use Rattle.tt_plain.proofs.law.change.Apart.{apart_from, apart_to, free_to, get_unmap}
+use Rattle.tt_plain.proofs.law.entry.Defines.{define_sound_by, lives_map, lives_with, marks_all_live}
+use Rattle.tt_plain.proofs.law.entry.SessionAlone.{SoundIn}
+use Rattle.tt_plain.proofs.law.change.Tables.{table_at}
+use Rattle.tt_plain.proofs.law.session.Views.{IsTable}
 use Rattle.tt_plain.specs.asked.Asked.{Asked, state_asked}
 use Rattle.tt_plain.specs.asked.Carried.{Carried}
 use Rattle.tt_plain.specs.declared.store.PlainTable.{PlainTable}

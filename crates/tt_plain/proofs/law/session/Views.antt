@@ -9,11 +9,11 @@ use Rattle.std.proofs.lemmas.Slice.Eq.{bytes_eq-Decides}
 use Rattle.tt_layout.proofs.Ascending.{ascends-changed}
 use Rattle.tt_layout.specs.Numbers.{IsAscending}
 use Rattle.tt_plain.proofs.Tests.{none_is}
-use Rattle.tt_plain.proofs.law.Alone.{IsDue}
+use Rattle.tt_plain.proofs.law.session.Alone.{IsDue}
 use Rattle.tt_plain.proofs.law.Gives.{Gives, gives_at, gives_bind, gives_map}
 use Rattle.tt_plain.proofs.law.Lists.{every-filter, every-filter_map, every-map, every_at, every_on}
-use Rattle.tt_plain.proofs.law.Rounds.{current_parts_ascend}
-use Rattle.tt_plain.proofs.law.Tables.{table_at}
+use Rattle.tt_plain.proofs.law.entry.Rounds.{current_parts_ascend}
+use Rattle.tt_plain.proofs.law.change.Tables.{table_at}
 use Rattle.tt_plain.specs.asked.Asked.{Asked, state_asked, table_asked}
 use Rattle.tt_plain.specs.asked.Carried.{Carried}
 use Rattle.tt_plain.specs.declared.store.Plain.{Plain}
