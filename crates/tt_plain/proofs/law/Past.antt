@@ -180,6 +180,11 @@ module _ (carried : Carried) (program : Script) (store : Plain) (effect : Effect
       let found = changes_after effect.moment store.tables effect.tables (number - 1) old ok.time stand_now ok.tables at in
       subst (Becomes effect.moment old) (same_Some found.0 new (sym found.1 ∙ there)) found.2
 
+  table_stays : (number : ℕ) (old : PlainTable) → table_numbered store number ≡ Some old → (new : PlainTable) × (table_numbered (applied store effect) number ≡ Some new)
+  unfolding applied
+  table_stays number old at =
+      let found = changes_after effect.moment store.tables effect.tables (number - 1) old ok.time stand_now ok.tables at in (found.0, found.1)
+
   parts_stay : (number at : ℕ) → at ≤ store.moment → number ≤ length store.tables → 1 ≤ number → parts_at (applied store effect).tally number at ≡ parts_at store.tally number at
   unfolding applied
   parts_stay number at before within first =
@@ -187,6 +192,7 @@ module _ (carried : Carried) (program : Script) (store : Plain) (effect : Effect
 
   pub effect_past : KeepsPast store (applied store effect)
   effect_past = record {
+    tables = table_stays;
     rows = λ number at old new before there now. (table_becomes number old new there now).rows at (omega (arith, before, ok.later));
     parts = parts_stay;
   }

@@ -14,8 +14,9 @@ use Rattle.tt_plain.specs.tally.Layouts.{parts_at}
 use Rattle.tt_retain.specs.Horizon.{horizon_of}
 use Rattle.tt_script.specs.declared.script.Script.{Script}
 
--- an entry changes no row and no layout of a moment that is past
+-- an entry takes no table away, and changes no row and no layout of a moment that is past
 pub record KeepsPast (before after : Plain) : Type 0 where
+  pub tables : (number : ℕ) (old : PlainTable) → table_numbered before number ≡ Some old → (new : PlainTable) × (table_numbered after number ≡ Some new)
   pub rows : (number moment : ℕ) (old new : PlainTable) → moment ≤ before.moment →
       table_numbered before number ≡ Some old → table_numbered after number ≡ Some new → rows_at new moment ≡ rows_at old moment
   pub parts : (number moment : ℕ) → moment ≤ before.moment → number ≤ length before.tables → 1 ≤ number →
