@@ -13,6 +13,10 @@ column_kinds columns = map (λ (column : Column). column.kind) columns
 abbrev pub kinds_of : Schema → List Kind
 kinds_of schema = column_kinds schema.columns
 
+-- these rows as a table of the schema's columns
+abbrev pub table_with : Schema → List Row → Table
+table_with schema rows = record { kinds = kinds_of schema; rows = rows }
+
 -- the table at a place: the `cap` rows from there on, or those that are left
 abbrev pub cut_at : List Kind → ℕ → List Row → ℕ → Table
 cut_at kinds cap rows k = record { kinds = kinds; rows = take cap (drop (k * cap) rows) }

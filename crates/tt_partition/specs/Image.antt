@@ -1,5 +1,5 @@
 -- The bytes of a table: `TTP1`, the number of rows and of columns, and the columns in order. All numbers are little endian.
-use Rattle.std.specs.Prelude.{ℕ, ℤ, Bool, true, false, List, [], ◌∷◌, ◌++◌, length, map, Option, Some, None}
+use Rattle.std.specs.Prelude.{◌≡◌, ℕ, ℤ, Bool, true, false, List, [], ◌∷◌, ◌++◌, length, map, Option, Some, None}
 use Rattle.std.specs.Int.{w16, w32, w64, to_le_bytes}
 use Rattle.std.specs.List.{flat_map}
 use Rattle.tt_value.specs.declared.value.Kind.{Kind}
@@ -8,7 +8,7 @@ use Rattle.tt_value.specs.declared.value.Value.{Value}
 use Rattle.tt_value.specs.declared.value.Value.TheVariants.{Null, Int, Date, Text}
 use Rattle.tt_intcol.specs.IntBody as numbers
 use Rattle.tt_textcol.specs.TextBody as texts
-use Rattle.tt_partition.specs.Table.{Table, columns_of}
+use Rattle.tt_partition.specs.Table.{Table, columns_of, IsPart}
 
 -- the bytes of `TTP1`
 abbrev pub magic : List ℕ
@@ -64,3 +64,7 @@ columns_bytes columns = flat_map (λ c. column_bytes c.0 c.1) columns
 -- the one image of a table
 unfoldable pub image_of : Table → List ℕ
 image_of table = magic ++ (to_le_bytes w32 (length table.rows) ++ (to_le_bytes w16 (length table.kinds) ++ columns_bytes (columns_of table)))
+
+-- where bytes are the image of a table that a partition may hold, this holds of the table
+abbrev pub IfImage : List ℕ → (Table → Type 0) → Type 0
+IfImage bytes P = (table : Table) → IsPart table → bytes ≡ image_of table → P table

@@ -23,17 +23,23 @@ pub record Table : Type 0 where
 abbrev pub columns_of : Table → List (Kind × List Value)
 columns_of table = zip table.kinds (map (λ k. column_at k table.rows) (range_with_len 0 (length table.kinds)))
 
--- the true zones of a table, one for each column
+-- the true zones of rows, one for each of so many columns
+abbrev pub zones_by : ℕ → List Row → List Zone
+zones_by columns rows = map (λ k. zone_of (column_at k rows)) (range_with_len 0 columns)
+
 abbrev pub zones_of : Table → List Zone
-zones_of table = map (λ k. zone_of (column_at k table.rows)) (range_with_len 0 (length table.kinds))
+zones_of table = zones_by (length table.kinds) table.rows
 
 -- the row at a place of columns
 abbrev pub row_of : List (List Value) → ℕ → Row
 row_of columns k = record { values = map (λ (column : List Value). value_or_null (slice_get column k)) columns }
 
+abbrev pub rows_by : ℕ → List (List Value) → List Row
+rows_by rows columns = map (row_of columns) (range_with_len 0 rows)
+
 -- the table of columns of so many values
 abbrev pub table_of : ℕ → List (Kind × List Value) → Table
-table_of rows columns = record { kinds = map (λ c. c.0) columns; rows = map (row_of (map (λ c. c.1) columns)) (range_with_len 0 rows) }
+table_of rows columns = record { kinds = map (λ c. c.0) columns; rows = rows_by rows (map (λ c. c.1) columns) }
 
 -- NULL, or a value of the kind; a date is a day of the years 1 to 9999
 abbrev pub IsOf : Kind → Value → Type 0

@@ -5,7 +5,7 @@ ghost use Rattle.tt_partition.specs.ColumnView.{IsColumnAt};
 ghost use Rattle.std.specs.List.{AllByRecursion, AllZip};
 ghost use Rattle.tt_partition.specs.ImageReading.{table_at};
 ghost use Rattle.tt_partition.specs.Table.{IsPart};
-ghost use Rattle.tt_partition.specs.Cuts.{kinds_of, cut};
+ghost use Rattle.tt_partition.specs.Cuts.{kinds_of, table_with, cut};
 ghost use Rattle.tt_partition.specs.Fits.{FitSchema};
 ghost use Rattle.tt_partition.specs.Outcome.{Gives};
 
@@ -48,12 +48,12 @@ impl Model for Partition {
 
 impl Partition {
     ghost use Rattle.tt_partition.specs.Table.{Table, zones_of};
-    ghost use Rattle.tt_partition.specs.Image.{image_of};
+    ghost use Rattle.tt_partition.specs.Image.{image_of, IfImage};
 
     /// The partition of an image. Bytes that are no image are refused with the place of their first fault.
     pub fn from_image(alloc: Global, bytes: &[u8]) -> Result<Partition, ImageError>
         // The image of a table is read as this table.
-        ensures again { (table : Table) → IsPart table → bytes.now ≡ image_of table → Gives (λ p. p) result (Ok table) }
+        ensures again { IfImage bytes.now (λ table. Gives (λ p. p) result (Ok table)) }
         // What is read is the image of its table.
         ensures only { IfOk result (λ p. (bytes.now ≡ image_of p) × IsPart p) }
         // Which table it is, or which place; only want of memory is free.
@@ -192,8 +192,8 @@ fn read_partition(alloc: Global, bytes: &[u8]) -> Result<Partition, ImageError>
 
 /// The partition of these rows, of which there are few enough.
 fn build_one(alloc: Global, schema: &Schema, rows: &[Row]) -> Result<Partition, AllocError>
-    requires { IsPart (record { kinds = kinds_of schema.now; rows = rows.now }) }
-    ensures { IfOk result (λ p. p ≡ record { kinds = kinds_of schema.now; rows = rows.now }) }
+    requires { IsPart (table_with schema.now rows.now) }
+    ensures { IfOk result (λ p. p ≡ table_with schema.now rows.now) }
 {
     let image = image_of(alloc, schema, rows)?;
     let zones = zones_of(alloc, schema.columns.len(), rows)?;

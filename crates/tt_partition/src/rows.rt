@@ -4,7 +4,7 @@ ghost use Rattle.std.specs.Prelude.{◌≡◌, ◌<◌, ◌^◌, length, map, sl
 ghost use Rattle.std.specs.List.{AllByRecursion, range_with_len};
 ghost use Rattle.tt_value.specs.trees.Scope.{value_or_null};
 ghost use Rattle.tt_zone.specs.Zones.{zone_of, column_at};
-ghost use Rattle.tt_partition.specs.Table.{IsOf, row_of, table_of};
+ghost use Rattle.tt_partition.specs.Table.{IsOf, row_of, rows_by, zones_by};
 ghost use Rattle.tt_value.specs.declared.value.Kind.TheVariants as kinds;
 ghost use Rattle.tt_partition.specs.ImageReading.{number_value, text_value};
 ghost use Rattle.tt_partition.specs.ColumnView.{joined, column_kind, column_values, column_view, IsValues};
@@ -91,7 +91,7 @@ pub fn rows_of(
     columns: &[ColumnValues<'_>],
 ) -> Result<Vec<Row>, AllocError>
     requires { AllByRecursion IsValues columns.now }
-    ensures { IfOk result (λ v. v.items ≡ map (row_of (map column_values columns.now)) (range_with_len 0 count)) }
+    ensures { IfOk result (λ v. v.items ≡ rows_by count (map column_values columns.now)) }
 {
     let mut rows = Vec::with_capacity(alloc, count as usize)?;
     for at in 0..count {
@@ -105,7 +105,7 @@ pub fn rows_of(
 #[tactic(auto, using(crate::proofs::Picks::tabulated_more))]
 pub fn zones_of(alloc: Global, columns: usize, rows: &[Row]) -> Result<Vec<Zone>, AllocError>
     requires { length rows.now < 2 ^ 32 }
-    ensures { IfOk result (λ v. v.items ≡ map (λ k. zone_of (column_at k rows.now)) (range_with_len 0 columns)) }
+    ensures { IfOk result (λ v. v.items ≡ zones_by columns rows.now) }
 {
     let mut zones = Vec::with_capacity(alloc, columns)?;
     for at in 0..columns {

@@ -6,7 +6,7 @@ ghost use Rattle.tt_intcol.specs.IntBody.{IsDay};
 ghost use Rattle.tt_zone.specs.Zones.{column_at};
 ghost use Rattle.std.specs.List.{AllByRecursion};
 ghost use Rattle.tt_partition.specs.Table.{IsOf, columns_of, IsPart};
-ghost use Rattle.tt_partition.specs.Cuts.{kinds_of};
+ghost use Rattle.tt_partition.specs.Cuts.{table_with};
 ghost use Rattle.tt_partition.specs.Image.{columns_bytes, image_of, magic, kind_code as code_of, null_code as code_of_nulls, number_in, text_in, spelled, number_bytes, text_bytes, column_bytes};
 
 use crate::head::MAGIC;
@@ -175,9 +175,9 @@ fn push_columns(
     schema: &Schema,
     rows: &[Row],
 ) -> Result<(), AllocError>
-    requires { IsPart (record { kinds = kinds_of schema.now; rows = rows.now }) }
-    ensures { OnOk result (out.new.items
-        ≡ out.old.items ++ columns_bytes (columns_of (record { kinds = kinds_of schema.now; rows = rows.now }))) }
+    requires { IsPart (table_with schema.now rows.now) }
+    ensures { OnOk result
+        (out.new.items ≡ out.old.items ++ columns_bytes (columns_of (table_with schema.now rows.now))) }
 {
     let columns = schema.columns.items();
     for place in 0..columns.len() {
@@ -189,8 +189,8 @@ fn push_columns(
 /// The image of rows that have the kinds of a schema.
 #[tactic(auto, unfolding(crate::specs::Image::image_of))]
 pub fn image_of(alloc: Global, schema: &Schema, rows: &[Row]) -> Result<Vec<u8>, AllocError>
-    requires { IsPart (record { kinds = kinds_of schema.now; rows = rows.now }) }
-    ensures { IfOk result (λ v. v.items ≡ image_of (record { kinds = kinds_of schema.now; rows = rows.now })) }
+    requires { IsPart (table_with schema.now rows.now) }
+    ensures { IfOk result (λ v. v.items ≡ image_of (table_with schema.now rows.now)) }
 {
     let mut out = Vec::new(alloc);
     out.extend_from_slice(&MAGIC)?;
