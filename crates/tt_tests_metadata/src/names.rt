@@ -5,9 +5,13 @@ use std::test::Fail;
 use tt_names::Names;
 use tt_value::Text;
 
+fn text_of(alloc: Global, name: &str) -> Result<Text, Fail> {
+    Ok(Text::from_str(alloc, name).ok().ok_or("no text")?)
+}
+
 /// Binds a name that is free.
 fn bind(alloc: Global, names: &mut Names, name: &str, table: u32) -> Result<bool, Fail> {
-    let name = Text::from_str(alloc, name)?;
+    let name = text_of(alloc, name)?;
     if names.live(&name).is_some() {
         return Ok(false);
     }
@@ -16,24 +20,24 @@ fn bind(alloc: Global, names: &mut Names, name: &str, table: u32) -> Result<bool
 }
 
 fn live(alloc: Global, names: &Names, name: &str) -> Result<Option<u32>, Fail> {
-    let name = Text::from_str(alloc, name)?;
+    let name = text_of(alloc, name)?;
     Ok(names.live(&name))
 }
 
 fn drops_are(alloc: Global, names: &Names, name: &str, drops: &[(u32, u64)]) -> Result<bool, Fail> {
-    let name = Text::from_str(alloc, name)?;
+    let name = text_of(alloc, name)?;
     Ok(names.dropped(&name) == drops)
 }
 
 fn unbind(alloc: Global, names: &mut Names, name: &str, moment: u64) -> Result<Option<u32>, Fail> {
-    let name = Text::from_str(alloc, name)?;
+    let name = text_of(alloc, name)?;
     Ok(names.unbind(&name, moment)?)
 }
 
 /// Renames a table that is live to a name that is free.
 fn rename(alloc: Global, names: &mut Names, old: &str, new: &str) -> Result<bool, Fail> {
-    let old = Text::from_str(alloc, old)?;
-    let new = Text::from_str(alloc, new)?;
+    let old = text_of(alloc, old)?;
+    let new = text_of(alloc, new)?;
     if names.live(&old).is_none() || names.live(&new).is_some() {
         return Ok(false);
     }
@@ -49,7 +53,7 @@ fn replace(
     table: u32,
     moment: u64,
 ) -> Result<Option<u32>, Fail> {
-    let name = Text::from_str(alloc, name)?;
+    let name = text_of(alloc, name)?;
     if names.live(&name).is_none() {
         return Ok(None);
     }
@@ -58,8 +62,8 @@ fn replace(
 
 /// Swaps two names that are live.
 fn swap(alloc: Global, names: &mut Names, a: &str, b: &str) -> Result<bool, Fail> {
-    let a = Text::from_str(alloc, a)?;
-    let b = Text::from_str(alloc, b)?;
+    let a = text_of(alloc, a)?;
+    let b = text_of(alloc, b)?;
     if names.live(&a).is_none() || names.live(&b).is_none() {
         return Ok(false);
     }
@@ -69,7 +73,7 @@ fn swap(alloc: Global, names: &mut Names, a: &str, b: &str) -> Result<bool, Fail
 
 /// Brings a table back by its place among the drops under a free name.
 fn undrop(alloc: Global, names: &mut Names, name: &str, place: usize) -> Result<bool, Fail> {
-    let name = Text::from_str(alloc, name)?;
+    let name = text_of(alloc, name)?;
     if names.live(&name).is_some() {
         return Ok(false);
     }
