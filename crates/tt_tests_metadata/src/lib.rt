@@ -1,13 +1,9 @@
-//! Tests of the crates that keep what a store knows beside its rows.
+//! Tests of bits, marks and names.
 #![tactic(auto)]
 
 #[cfg(test)]
 mod bits;
 #[cfg(test)]
-mod layouts;
-#[cfg(test)]
 mod marks;
 #[cfg(test)]
 mod names;
-#[cfg(test)]
-mod retention;

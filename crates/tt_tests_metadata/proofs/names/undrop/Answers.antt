@@ -11,5 +11,5 @@ at_place all drops i d e h =
 
 pub undrop-requires-clause-dropped : goal.undrop-requires-clause-dropped
 undrop-requires-clause-dropped c =
-    let within : c.args.place < length c.dropped.result.now = omega arith in
-    at_place _ c.dropped.result.now c.args.place (0, 0) c.dropped.ensures within
+    let within : c.args.place < length c.dropped-drops.result.now = omega arith in
+    at_place _ c.dropped-drops.result.now c.args.place (0, 0) c.dropped-drops.ensures within

@@ -4,7 +4,7 @@ use Rattle.tt_layout.specs.Numbers.{has, changed}
 use Rattle.tt_layout.specs.Chain.{current_of, last_begun, with_change}
 use Rattle.tt_layout.proofs.Members.{has-changed}
 use Rattle.tt_layout.proofs.Growing.{current-with_change, begun-with_change}
-use Rattle.tt_tests_metadata.proofs.layouts.chain_of.Goals as goal
+use Rattle.tt_tests_layouts.proofs.layouts.chain_of.Goals as goal
 
 not_later : (ns : List ℕ) (x n : ℕ) → has ns n ≡ false → x < n → has (changed ns [] (x ∷ [])) n ≡ false
 not_later ns x n old h =

@@ -1,7 +1,7 @@
 use Rattle.std.proofs.Common.{◌≡◌, ℕ, ◌+◌, ◌<◌, ◌≤◌, false, length}
 use Rattle.tt_layout.specs.Numbers.{has}
 use Rattle.tt_layout.specs.Chain.{current_of, last_begun}
-use Rattle.tt_tests_metadata.proofs.layouts.chain_of.Given as goal
+use Rattle.tt_tests_layouts.proofs.layouts.chain_of.Given as goal
 
 -- no later number is there yet
 abbrev pub invariant-loop-number : goal.invariant-loop-number
