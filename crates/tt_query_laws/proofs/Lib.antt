@@ -1,0 +1,6 @@
+pub mod Bags
+pub mod Best
+pub mod Groups
+pub mod Items
+pub mod Rearranged
+pub mod Sorting

@@ -1,0 +1,4 @@
+//! Laws of what queries mean. They compute nothing.
+#![tactic(auto)]
+
+pub mod laws;
