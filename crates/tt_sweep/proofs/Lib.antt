@@ -1,0 +1,4 @@
+pub mod Spans
+pub mod Claiming
+pub mod Holding
+pub mod Finding
