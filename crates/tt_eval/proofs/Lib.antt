@@ -1,0 +1,2 @@
+pub mod ValueFolds
+pub mod Values
