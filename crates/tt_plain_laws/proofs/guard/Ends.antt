@@ -48,7 +48,7 @@ use Rattle.tt_plain.specs.asked.Event as event
 use Rattle.tt_history.specs.declared.reply.Reply.TheVariants as reply
 use Rattle.tt_history.specs.declared.history.Told.TheVariants as told
 
-found_passes : {A : Type 0} (test : A → Bool) (xs : List A) (x : A) → find test xs ≡ Some x → test x ≡ true
+pub found_passes : {A : Type 0} (test : A → Bool) (xs : List A) (x : A) → find test xs ≡ Some x → test x ≡ true
 found_passes test [] x e = absurd (none-some x e)
 found_passes test (y ∷ xs) x e = passed (test y) refl (found_passes test xs x) e
   where

@@ -13,7 +13,7 @@ use Rattle.tt_plain_laws.proofs.guard.Entries.{entries_keep}
 use Rattle.tt_plain_laws.proofs.guard.Kept.{bare}
 use Rattle.tt_plain_laws.specs.Guarded.{AreGuarded, IsGuarded}
 
-empty_guarded : (program : Script) → AreGuarded (empty_store program)
+pub empty_guarded : (program : Script) → AreGuarded (empty_store program)
 unfolding empty_store
 empty_guarded program = each_new (empty_store program) program.sessions
   where

@@ -57,7 +57,7 @@ covered_by test mark (other ∷ marks) on e = elim (or_cases (is_kept_by mark ot
   | inr h ↦ rw (covered_by test mark marks on h) (or-true (test other))
 ]
 
-any_covered : (test : PlainMark → Bool) (before marks : List PlainMark) → ((mark other : PlainMark) → test mark ≡ true → is_kept_by mark other ≡ true → test other ≡ true) → AreKept before marks
+pub any_covered : (test : PlainMark → Bool) (before marks : List PlainMark) → ((mark other : PlainMark) → test mark ≡ true → is_kept_by mark other ≡ true → test other ≡ true) → AreKept before marks
     → list_any test before ≡ true → list_any test marks ≡ true
 any_covered test [] marks on all e = absurd (false≢true e)
 any_covered test (mark ∷ before) marks on all e = elim (or_cases (test mark) (list_any test before) e) [
@@ -65,7 +65,7 @@ any_covered test (mark ∷ before) marks on all e = elim (or_cases (test mark) (
   | inr h ↦ any_covered test before marks on all.1 h
 ]
 
-same_table : (table : ℕ) (mark other : PlainMark) → (mark.table == table) ≡ true → is_kept_by mark other ≡ true → (other.table == table) ≡ true
+pub same_table : (table : ℕ) (mark other : PlainMark) → (mark.table == table) ≡ true → is_kept_by mark other ≡ true → (other.table == table) ≡ true
 same_table table mark other on kept =
     let both = and_parts (other.table == mark.table) (other.exclusive || not mark.exclusive) kept in
     eq-eqb other.table table (same_number other.table mark.table both.0 ∙ same_number mark.table table on)
@@ -74,7 +74,7 @@ stays_exclusive : (b c : Bool) → c ≡ true → (b || not c) ≡ true → b �
 stays_exclusive b true e f = elim (or_cases b (not true) f) [ inl h ↦ h | inr h ↦ absurd (false≢true h) ]
 stays_exclusive b false e f = absurd (false≢true e)
 
-same_exclusive : (table : ℕ) (mark other : PlainMark) → is_exclusive_on table mark ≡ true → is_kept_by mark other ≡ true → is_exclusive_on table other ≡ true
+pub same_exclusive : (table : ℕ) (mark other : PlainMark) → is_exclusive_on table mark ≡ true → is_kept_by mark other ≡ true → is_exclusive_on table other ≡ true
 same_exclusive table mark other on kept =
     let mine = and_parts (mark.table == table) mark.exclusive on in
     let both = and_parts (other.table == mark.table) (other.exclusive || not mark.exclusive) kept in
@@ -86,7 +86,7 @@ guard_put table exclusive marks t e = any_covered (λ (mark : PlainMark). mark.t
 pub exclusive_stays : (table : ℕ) (exclusive : Bool) (marks : List PlainMark) (t : ℕ) → list_any (is_exclusive_on t) marks ≡ true → list_any (is_exclusive_on t) (with_mark table exclusive marks) ≡ true
 exclusive_stays table exclusive marks t e = any_covered (is_exclusive_on t) marks (with_mark table exclusive marks) (same_exclusive t) (kept_put table exclusive marks) e
 
-new_there : (test : PlainMark → Bool) (table : ℕ) (exclusive : Bool) (marks : List PlainMark) → test (record { table = table; exclusive = exclusive || list_any (is_exclusive_on table) marks }) ≡ true
+pub new_there : (test : PlainMark → Bool) (table : ℕ) (exclusive : Bool) (marks : List PlainMark) → test (record { table = table; exclusive = exclusive || list_any (is_exclusive_on table) marks }) ≡ true
     → list_any test (with_mark table exclusive marks) ≡ true
 new_there test table exclusive marks e =
     list_any-append test (filter (λ (mark : PlainMark). nat_lt mark.table table) marks)

@@ -1,0 +1,12 @@
+pub mod Alone
+pub mod Defines
+pub mod Ends
+pub mod Entries
+pub mod Histories
+pub mod Layouts
+pub mod Purges
+pub mod Rounds
+pub mod Sources
+pub mod Stock
+pub mod Supplied
+pub mod Used
