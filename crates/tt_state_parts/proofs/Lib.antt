@@ -1,0 +1,10 @@
+pub mod Begins
+pub mod Ended
+pub mod Goes
+pub mod Histories
+pub mod Lists
+pub mod Lookups
+pub mod Owed
+pub mod Refusals
+pub mod Steps
+pub mod Turns

@@ -1,0 +1,5 @@
+pub mod Chronicle
+pub mod Keeps
+pub mod Kept
+pub mod Moves
+pub mod Owed
