@@ -107,7 +107,7 @@ abbrev pub in_span : (Hold → Bool) → ℕ → Retention → ℕ → List ℕ 
 in_span test at table part span =
     has span.0 part && (is_held (span_hold at table span.1) && test (span_hold at table span.1))
 
-list_any-same : {X : Type 0} (p q : X → Bool) (xs : List X) → ((x : X) → p x ≡ q x) → list_any p xs ≡ list_any q xs
+pub list_any-same : {X : Type 0} (p q : X → Bool) (xs : List X) → ((x : X) → p x ≡ q x) → list_any p xs ≡ list_any q xs
 list_any-same p q [] same = refl
 list_any-same p q (x ∷ xs) same = ap (λ (b : Bool). b || list_any p xs) (same x) ∙ ap (λ (b : Bool). q x || b) (list_any-same p q xs same)
 
@@ -127,7 +127,7 @@ none_and true = refl
 none_and false = refl
 
 -- only the last span of a live table has not ended, and it is active
-active_spans : (at : ℕ) (table : Retention) (part : ℕ) (ls : List (ℕ × List ℕ)) (dropped : Option ℕ)
+pub active_spans : (at : ℕ) (table : Retention) (part : ℕ) (ls : List (ℕ × List ℕ)) (dropped : Option ℕ)
     → list_any (in_span is_active_hold at table part) (spans_of ls dropped) ≡ (is_none dropped && has (current_of ls) part)
 active_spans at table part [] None = refl
 active_spans at table part [] (Some d) = refl

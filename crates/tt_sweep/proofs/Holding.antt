@@ -55,7 +55,7 @@ some_held hold.Nothing h = absurd (h refl)
 
 -- ---- along the chain
 
-span_more : (at : ℕ) (table : TableFacts) (test : Hold → Bool) (part place : ℕ) (h : Hold) → place < length table.layouts
+pub span_more : (at : ℕ) (table : TableFacts) (test : Hold → Bool) (part place : ℕ) (h : Hold) → place < length table.layouts
     → h ≡ span_hold at table.regimes (end_at table.layouts table.dropped place)
     → list_any (in_span test at table.regimes part) (take (place + 1) (spans_of table.layouts table.dropped))
     ≡ (list_any (in_span test at table.regimes part) (take place (spans_of table.layouts table.dropped))

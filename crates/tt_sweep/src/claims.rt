@@ -27,8 +27,8 @@ pub fn claims_of(alloc: Global, table: &TableFacts, at: u64) -> Result<Vec<Claim
     Ok(claims)
 }
 
-/// How the layout at a place is held.
-fn hold_at(table: &TableFacts, place: usize, at: u64) -> Hold
+/// How the layout at a place, counted from 0, is held at a moment. Takes no memory.
+pub fn hold_at(table: &TableFacts, place: usize, at: u64) -> Hold
     requires at { at < 2 ^ 62 }
     requires place { place < length table.now.layouts }
     ensures { result ≡ span_hold at table.now.regimes (end_at table.now.layouts table.now.dropped place) }
