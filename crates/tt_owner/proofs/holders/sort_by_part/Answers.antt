@@ -1,0 +1,7 @@
+use Rattle.std.proofs.Common.{rules}
+use Rattle.std.proofs.lemmas.List.Sorted.{IsNonDecreasingBy-from_sort_by_key}
+use Rattle.tt_owner.specs.declared.holder.Holder.{Holder}
+use Rattle.tt_owner.proofs.holders.sort_by_part.Goals as goal
+
+pub returns-clause-order : goal.returns-clause-order
+returns-clause-order c = IsNonDecreasingBy-from_sort_by_key (λ (holder : Holder). holder.part) c.sort_by_key.new.self.items c.in_ok-sort_by_key.ensures.sorted (λ a r f' k. search rules)

@@ -1,0 +1,4 @@
+pub mod Holders
+pub mod AllHolders
+pub mod Owned
+pub mod Rows
