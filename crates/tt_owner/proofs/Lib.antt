@@ -5,3 +5,4 @@ pub mod Owning
 pub mod Gathering
 pub mod Parting
 pub mod Totals
+pub mod Sharing

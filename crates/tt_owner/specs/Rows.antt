@@ -1,11 +1,14 @@
 -- The rows of the metrics view, with whole totals.
-use Rattle.std.specs.Prelude.{ℕ, nat_lt, Bool, ◌==◌, if◌then◌else◌, List, [], ◌∷◌, length, sum_by}
+use Rattle.std.specs.Prelude.{Bool, IsTrue, List, [], if◌then◌else◌, length, map, nat_lt, sum_by, ℕ, ◌+◌, ◌==◌, ◌∷◌}
+use Rattle.std.specs.List.{list_all}
 use Rattle.tt_value.specs.declared.value.Row.{Row}
 use Rattle.tt_value.specs.declared.value.Value.TheVariants as value
 use Rattle.tt_layout.specs.declared.hold.Class.{Class}
 use Rattle.tt_layout.specs.declared.hold.Class.TheVariants as class
 use Rattle.tt_layout.specs.declared.facts.TableFacts.{TableFacts}
+use Rattle.tt_layout.specs.declared.facts.PartFacts.{PartFacts}
 use Rattle.tt_layout.specs.declared.facts.Facts.{Facts}
+use Rattle.tt_layout.specs.Numbers.{IsAscending, has}
 use Rattle.tt_plain.specs.report.Values.{number_value, row_of}
 use Rattle.tt_plain.specs.report.Metrics.{class_number, bytes_owned, is_measured}
 use Rattle.tt_owner.specs.declared.owned.Owned.{Owned}
@@ -54,3 +57,20 @@ row_of_run table run = record {
   retained = sum_by (counted class.RetainedForClone) run;
   pending = sum_by (counted class.Pending) run;
 }
+
+-- ---- all rows together
+
+abbrev pub table_numbers : Facts → List ℕ
+table_numbers facts = map (λ (table : TableFacts). table.number) facts.tables
+
+-- the tables stand by number, and each stored part was added by one of them
+pub record AreByNumber (facts : Facts) : Type 0 where
+  pub tables : IsAscending (table_numbers facts)
+  pub origins : IsTrue (list_all (λ part. has (table_numbers facts) part.origin) facts.parts)
+
+-- the five totals of a row
+abbrev pub total_of : MetricRow → ℕ
+total_of row = row.active + row.time_travel + row.failsafe + row.retained + row.pending
+
+abbrev pub stored_bytes : Facts → ℕ
+stored_bytes facts = sum_by (λ (part : PartFacts). part.bytes) facts.parts

@@ -4,6 +4,7 @@
 pub mod holder;
 pub mod holders;
 pub mod holding;
+pub mod laws;
 pub mod owned;
 pub mod owner;
 pub mod row;

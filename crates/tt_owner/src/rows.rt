@@ -5,7 +5,7 @@ ghost use Rattle.tt_layout.specs.declared.facts.Facts.{Facts as FactsValue};
 ghost use Rattle.tt_layout.specs.Holds.{stands};
 ghost use Rattle.tt_plain.specs.report.Metrics.{is_measured, metric_rows};
 ghost use Rattle.tt_owner.specs.Owned.{owned_of};
-ghost use Rattle.tt_owner.specs.Rows.{has_some, counted, metric_of, row_of_run, row_if, reply_row};
+ghost use Rattle.tt_owner.specs.Rows.{AreByNumber, total_of, stored_bytes, has_some, counted, metric_of, row_of_run, row_if, reply_row};
 
 use crate::holding::stands;
 use crate::owned::{Owned, owned_by, owned_parts};
@@ -17,6 +17,7 @@ use tt_layout::{Class, Facts, TableFacts};
 pub fn metrics(alloc: Global, facts: &Facts) -> Result<Vec<MetricRow>, AllocError>
     requires { facts.now.at < 2 ^ 62 }
     ensures rows { IfOk result (λ rows. rows.items ≡ map (metric_of facts.now) (filter (is_measured facts.now) facts.now.tables)) }
+    ensures totals { AreByNumber facts.now → IfOk result (λ rows. sum_by total_of rows.items ≡ stored_bytes facts.now) }
     ensures reply { IfOk result (λ rows. map reply_row rows.items ≡ metric_rows facts.now) }
 {
     let owned = owned_parts(alloc, facts)?;

@@ -8,6 +8,7 @@ use Rattle.tt_owner.specs.Owned.{owned_of}
 use Rattle.tt_owner.specs.Rows.{metric_of}
 use Rattle.tt_owner.proofs.Lists.{mapped_more}
 use Rattle.tt_owner.proofs.Totals.{all_replied}
+use Rattle.tt_owner.proofs.Sharing.{all_add_up}
 use Rattle.tt_owner.proofs.rows.metrics.Goals as goal
 
 pub push_row-requires-clause-order : goal.push_row-requires-clause-order
@@ -33,3 +34,6 @@ returns-clause-rows c = all c
 
 pub returns-clause-reply : goal.returns-clause-reply
 returns-clause-reply c = all_replied c.args.facts.now c.loop-table.rows.items (all c)
+
+pub returns-clause-totals : goal.returns-clause-totals
+returns-clause-totals c = λ known. all_add_up c.args.facts.now c.loop-table.rows.items known (all c)
