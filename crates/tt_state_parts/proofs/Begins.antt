@@ -2,7 +2,7 @@
 use Rattle.std.specs.FinMap as finite
 use Rattle.std.specs.Ordering.{nat_cmp}
 use Rattle.std.specs.Cmp.Lexicographic.{slice_cmp}
-use Rattle.std.specs.Prelude.{List, [], false, map, refl, slice_get, unwrap_or, ℕ, ◌∷◌, ◌≡◌, ◌≤◌}
+use Rattle.std.specs.Prelude.{List, [], false, map, refl, slice_get, unwrap_or, ℕ, ◌∷◌, ◌≡◌, ◌≤◌, length}
 use Rattle.std.proofs.Common.{ap, arith, suc, sym, zero}
 use Rattle.tt_script.specs.declared.script.Script.{Script}
 use Rattle.tt_script.specs.declared.script.SessionText.{SessionText}
@@ -56,6 +56,10 @@ owed_store : (program : Script) → owed program.sessions (empty_store program).
 unfolding empty_store
 owed_store program = owed_first program
 
+no_tables : (program : Script) → length (empty_store program).tables ≤ 0
+unfolding empty_store
+no_tables program = omega arith
+
 pub begins : (program : Script) (cap room : ℕ) → IsProgram program → entry_limit program ≤ room → StandsFor (record { program = program; cap = cap; history = [] }) (first_kept program) room
 unfolding store_after contents_of pairs_of replay_of replay_from
 begins program cap room limits roomy = record {
@@ -63,6 +67,7 @@ begins program cap room limits roomy = record {
   tables = first_tables program;
   sessions = first_sessions program;
   limits = limits;
+  few = no_tables program;
   counted = omega (arith, owed_store program);
   roomy = omega (arith, owed_store program, roomy);
 }

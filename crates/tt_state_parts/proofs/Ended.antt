@@ -1,6 +1,6 @@
 -- What is kept where a statement has ended or begun, and nothing else has changed but its pins and its marks.
 use Rattle.std.specs.Prelude.{None, Option, Some, [], false, refl, unwrap_or, slice_get, slice_set, ℕ, ◌+◌, ◌≡◌, Result}
-use Rattle.std.proofs.Common.{ap, ◌∙◌}
+use Rattle.std.proofs.Common.{ap, ◌∙◌, arith}
 use Rattle.tt_sql.specs.declared.statement.Statement.{Statement}
 use Rattle.tt_history.specs.declared.history.EntryKind.{EntryKind}
 use Rattle.tt_history.specs.declared.reply.Reply.{Reply}
@@ -54,6 +54,7 @@ module _ (chronicle : Chronicle) (kept : Kept) (room session index : ℕ) (read 
       record {
         step = step;
         less = ended_less chronicle.program store (ended reply) session index next.lines next.state done next.turn refl refl refl;
+        few = omega arith;
         tables = tables_stay store.tables store.tally store.tally (rows_of chronicle) (contents_with built chronicle.program (rows_of chronicle) (store, entry_at store.moment session index k)) kept (with_ended chronicle.program kept session index)
             stands.tables refl refl (contents_same built chronicle.program (rows_of chronicle) (store, entry_at store.moment session index k) none) refl refl refl;
         sessions = record {

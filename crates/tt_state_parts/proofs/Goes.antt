@@ -1,5 +1,5 @@
 -- A catalog goes on by an entry.
-use Rattle.std.specs.Prelude.{Bool, List, None, Option, Some, [], filter, is_some, length, map, refl, slice_get, slice_set, unwrap_or, ℕ, ◌++◌, ◌+◌, ◌<◌, ◌==◌, ◌∷◌, ◌≡◌, ◌≢◌, true, false}
+use Rattle.std.specs.Prelude.{Bool, List, None, Option, Some, [], filter, is_some, length, map, refl, slice_get, slice_set, unwrap_or, ℕ, ◌++◌, ◌+◌, ◌<◌, ◌==◌, ◌∷◌, ◌≡◌, ◌≢◌, true, false, ◌≤◌}
 use Rattle.std.proofs.Common.{ap, arith, subst, sym, ◌∙◌}
 use Rattle.std.proofs.lemmas.Bool.{false≢true}
 use Rattle.std.proofs.lemmas.List.{length_push}
@@ -39,6 +39,7 @@ use Rattle.tt_state_parts.specs.Owed.{owed, owed_by}
 pub record GoesOn (chronicle : Chronicle) (now : Kept) (entry : Entry) (next : Plain) (told : Option Reply) : Type 0 where
   pub step : step_of built chronicle.program (store_of chronicle) entry ≡ Some (next, told)
   pub less : owed chronicle.program.sessions next.sessions < owed chronicle.program.sessions (store_of chronicle).sessions
+  pub few : length next.tables ≤ length (store_of chronicle).tables + 1
   pub tables : KeepsTables next.tables next.tally (contents_with built chronicle.program (rows_of chronicle) (store_of chronicle, entry)) now
   pub sessions : KeepsSessions next now
 
@@ -59,6 +60,7 @@ longer_stands chronicle kept now room left entry next told stands goes room_is =
           (subst (λ (s : Plain). KeepsTables s.tables s.tally (contents_with built chronicle.program (rows_of chronicle) (store_of chronicle, entry)) now) (sym after) goes.tables);
       sessions = subst (λ (s : Plain). KeepsSessions s now) (sym after) goes.sessions;
       limits = stands.limits;
+      few = omega (arith, stands.few, goes.few, length_push chronicle.history entry, ap (λ (s : Plain). length s.tables) after);
       counted = omega (arith, stands.counted, goes.less, length_push chronicle.history entry, ap (λ (s : Plain). owed chronicle.program.sessions s.sessions) after);
       roomy = omega (arith, stands.roomy, goes.less, room_is, ap (λ (s : Plain). owed chronicle.program.sessions s.sessions) after);
     }

@@ -126,5 +126,6 @@ pub record StandsFor (chronicle : Chronicle) (kept : Kept) (room : ℕ) : Type 0
   pub tables : KeepsTables (store_of chronicle).tables (store_of chronicle).tally (rows_of chronicle) kept
   pub sessions : KeepsSessions (store_of chronicle) kept
   pub limits : IsProgram chronicle.program
+  pub few : length (store_of chronicle).tables ≤ length chronicle.history
   pub counted : length chronicle.history + owed chronicle.program.sessions (store_of chronicle).sessions ≤ entry_limit chronicle.program
   pub roomy : owed chronicle.program.sessions (store_of chronicle).sessions ≤ room
