@@ -1,0 +1,3 @@
+pub mod EffectAs
+pub mod Allowed
+pub mod OneTable
