@@ -1,15 +1,14 @@
 -- The values of a record's first fields, and the faults of the rows before a record.
-use Rattle.std.proofs.Common.{◌≡◌, ℕ, zero, suc, ◌+◌, ◌<◌, ◌≤◌, Bool, true, false, cond, List, [], ◌∷◌, ◌++◌, length, map, take, drop, drop-cons, get_or, Option, Some, None, refl, ap, sym, ◌∙◌, subst, arith, append_assoc, append-nil, eq-eqb}
+use Rattle.std.proofs.Common.{◌≡◌, ℕ, zero, suc, ◌+◌, true, List, [], ◌∷◌, ◌++◌, length, map, take, drop, Option, Some, None, refl, ap, sym, ◌∙◌, arith, append_assoc, eq-eqb}
 use Rattle.std.specs.Prelude.{nat_eq, option_and_then, slice_get, zip}
 use Rattle.std.specs.Option.{option_or}
-use Rattle.std.proofs.lemmas.List.{drop_all, map-append, take_all}
+use Rattle.std.proofs.lemmas.List.{drop_all, take_all}
 use Rattle.csv.specs.Records.{field_at}
 use Rattle.tt_value.specs.declared.value.Column.{Column}
 use Rattle.tt_value.specs.declared.value.Row.{Row}
 use Rattle.tt_value.specs.declared.value.Value.{Value}
 use Rattle.tt_value.specs.trees.Scope.{value_or_null}
-use Rattle.tt_history.specs.declared.reply.Refusal.{Refusal}
-use Rattle.tt_sql.specs.meaning.Changes.{Changed, Changes}
+use Rattle.tt_sql.specs.meaning.Changes.{Changed}
 use Rattle.tt_plain.specs.meaning.StagedRows.{added_unless, field_fault, field_value, first_fault, first_field_fault, record_fault, row_of_record}
 use Rattle.tt_csvin.specs.Staged.{AddsRows, RefusesAs, RefusesFile, refusal_of}
 use Rattle.tt_csvin.specs.declared.StagedError.{StagedError}
@@ -114,7 +113,7 @@ record_refused schema file done rest fields number Memory all count sound h = tt
 record_refused schema file done rest fields number (Refused why) all count sound h =
     let s : 1 + length done ≡ number = omega arith in
     let first : first_fault schema.columns 1 (records_of file) ≡ option_or (record_fault schema.columns number fields) (first_fault schema.columns (number + 1) rest) =
-        ap (first_fault schema.columns 1) (all ∙ append_assoc done (fields ∷ []) rest) ∙ faults_behind schema.columns 1 done (fields ∷ rest) sound ∙ ap (λ m. first_fault schema.columns m (fields ∷ rest)) s in
+    ap (first_fault schema.columns 1) (all ∙ append_assoc done (fields ∷ []) rest) ∙ faults_behind schema.columns 1 done (fields ∷ rest) sound ∙ ap (λ m. first_fault schema.columns m (fields ∷ rest)) s in
     rw first (by (record_fault schema.columns number fields) h)
   where
     by : (fault : Option Changed) → option_and_then refusal_of fault ≡ Some why → refusal_of (added_unless (map (row_of_record schema.columns) (records_of file)) (option_or fault (first_fault schema.columns (number + 1) rest))) ≡ Some why

@@ -1,9 +1,9 @@
 -- The records that the reader gives are those of the definition: one line after the other.
-use Rattle.std.proofs.Common.{◌≡◌, ◌≢◌, ℕ, zero, suc, ◌+◌, ◌-◌, ◌<◌, ◌≤◌, Bool, true, false, cond, List, [], ◌∷◌, ◌++◌, length, map, Option, Some, None, refl, ap, sym, ◌∙◌, subst, arith, append-nil, append_assoc, eq-eqb, eqb-true, ne_eqb}
-use Rattle.std.specs.Prelude.{filter, filter_map, nat_eq, not, ◌&&◌, ◌||◌, ◌==◌, if◌then◌else◌, MatchOption}
+use Rattle.std.proofs.Common.{◌≡◌, ℕ, suc, ◌+◌, ◌-◌, ◌<◌, ◌≤◌, Bool, true, false, cond, List, [], ◌∷◌, ◌++◌, length, map, Option, Some, None, refl, ap, sym, ◌∙◌, subst, arith, append-nil, append_assoc, eq-eqb, eqb-true, ne_eqb}
+use Rattle.std.specs.Prelude.{filter, filter_map, nat_eq, not, ◌&&◌, ◌==◌, if◌then◌else◌}
 use Rattle.std.proofs.lemmas.Bool.{false≢true}
-use Rattle.std.specs.List.{onto_first, slice_split, starts_with}
-use Rattle.csv.specs.Machine.{Read, after_end, ends_with, field_after, fields_after, in_field, is_end, next_record, start_field, step}
+use Rattle.std.specs.List.{onto_first, slice_split}
+use Rattle.csv.specs.Machine.{Read, after_end, field_after, fields_after, in_field, is_end, next_record, start_field, step}
 use Rattle.csv.specs.Reading.{Reached, default_config, is_bom, strip_bom}
 use Rattle.csv.specs.declared.parser.State.{State}
 use Rattle.csv.specs.declared.parser.Action.{Action}
@@ -86,6 +86,7 @@ joined_nothing (mark ∷ line) = by (is_comma mark)
     onto : (parts : List (List Mark)) → joined [] (map (filter_map byte_of) (onto_first mark parts)) ≡ map (filter_map byte_of) (onto_first mark parts)
     onto [] = refl
     onto (part ∷ parts) = refl
+
     by : (t : Bool) → joined [] (map (filter_map byte_of) (cond t ([] ∷ slice_split is_comma line) (onto_first mark (slice_split is_comma line)))) ≡ map (filter_map byte_of) (cond t ([] ∷ slice_split is_comma line) (onto_first mark (slice_split is_comma line)))
     by true = refl
     by false = onto (slice_split is_comma line)
@@ -104,26 +105,54 @@ onto_parts m first others e = ap (onto_first m) e
 module _ (o : Option Read) (fields : List (List ℕ)) (field : List ℕ) (lines more : List (List Mark)) (size : ℕ) where
   takes_byte : (c : ℕ) (p : Option Read) → o ≡ p → lines ≡ onto_first (Byte c) more → ReadsLine p fields (field ++ c ∷ []) more (size - 1) → ReadsLine o fields field lines size
   takes_byte c p e l r = record {
-    taken = r.taken; first = Byte c ∷ r.first; others = r.others; is = e ∙ r.is; parts = l ∙ onto_parts (Byte c) r.first r.others r.parts;
-    row = r.row ∙ ap (λ (fs : List (List ℕ)). fields ++ fs) (sym (with_byte field c r.first)); between = r.between; rest = r.rest; shorter = omega (arith, r.shorter);
+    taken = r.taken;
+    first = Byte c ∷ r.first;
+    others = r.others;
+    is = e ∙ r.is;
+    parts = l ∙ onto_parts (Byte c) r.first r.others r.parts;
+    row = r.row ∙ ap (λ (fs : List (List ℕ)). fields ++ fs) (sym (with_byte field c r.first));
+    between = r.between;
+    rest = r.rest;
+    shorter = omega (arith, r.shorter);
   }
 
   takes_quote : (p : Option Read) → o ≡ p → lines ≡ onto_first Quote more → ReadsLine p fields field more (size - 1) → ReadsLine o fields field lines size
   takes_quote p e l r = record {
-    taken = r.taken; first = Quote ∷ r.first; others = r.others; is = e ∙ r.is; parts = l ∙ onto_parts Quote r.first r.others r.parts;
-    row = r.row ∙ ap (λ (fs : List (List ℕ)). fields ++ fs) (sym (with_quote field r.first)); between = r.between; rest = r.rest; shorter = omega (arith, r.shorter);
+    taken = r.taken;
+    first = Quote ∷ r.first;
+    others = r.others;
+    is = e ∙ r.is;
+    parts = l ∙ onto_parts Quote r.first r.others r.parts;
+    row = r.row ∙ ap (λ (fs : List (List ℕ)). fields ++ fs) (sym (with_quote field r.first));
+    between = r.between;
+    rest = r.rest;
+    shorter = omega (arith, r.shorter);
   }
 
   takes_comma : (p : Option Read) → o ≡ p → lines ≡ onto_first Comma more → ReadsLine p (fields ++ field ∷ []) [] more (size - 1) → ReadsLine o fields field lines size
   takes_comma p e l r = record {
-    taken = r.taken; first = Comma ∷ r.first; others = r.others; is = e ∙ r.is; parts = l ∙ onto_parts Comma r.first r.others r.parts;
-    row = r.row ∙ sym (with_comma fields field r.first); between = r.between; rest = r.rest; shorter = omega (arith, r.shorter);
+    taken = r.taken;
+    first = Comma ∷ r.first;
+    others = r.others;
+    is = e ∙ r.is;
+    parts = l ∙ onto_parts Comma r.first r.others r.parts;
+    row = r.row ∙ sym (with_comma fields field r.first);
+    between = r.between;
+    rest = r.rest;
+    shorter = omega (arith, r.shorter);
   }
 
   takes_end : (to : State) (rest : List ℕ) → o ≡ Some (fields ++ field ∷ [], to, rest) → IsBetween to → lines ≡ [] ∷ lines_from Before rest → length rest ≤ size → ReadsLine o fields field lines size
   takes_end to rest e is l short = record {
-    taken = (fields ++ field ∷ [], to, rest); first = []; others = lines_from Before rest; is = e; parts = l;
-    row = ap (λ (f : List ℕ). fields ++ f ∷ []) (sym (append-nil field)); between = is; rest = refl; shorter = short;
+    taken = (fields ++ field ∷ [], to, rest);
+    first = [];
+    others = lines_from Before rest;
+    is = e;
+    parts = l;
+    row = ap (λ (f : List ℕ). fields ++ f ∷ []) (sym (append-nil field));
+    between = is;
+    rest = refl;
+    shorter = short;
   }
 
 -- what is read from a place within a record
@@ -194,8 +223,15 @@ resized o fields field lines n r = let e : n ≡ suc n - 1 = omega arith in subs
 
 reads : (bytes : List ℕ) → Reads bytes
 reads [] s q is fields field = record {
-  taken = (fields ++ field ∷ [], st.StartRecord, []); first = []; others = []; is = ends_here s q is fields field; parts = refl;
-  row = ap (λ (f : List ℕ). fields ++ f ∷ []) (sym (append-nil field)); between = at_start; rest = refl; shorter = omega arith;
+  taken = (fields ++ field ∷ [], st.StartRecord, []);
+  first = [];
+  others = [];
+  is = ends_here s q is fields field;
+  parts = refl;
+  row = ap (λ (f : List ℕ). fields ++ f ∷ []) (sym (append-nil field));
+  between = at_start;
+  rest = refl;
+  shorter = omega arith;
 }
 reads (c ∷ rest) _ _ before fields field = resized _ fields field _ (length rest) (field_start st.StartField c rest (reads rest) refl fields field)
 reads (c ∷ rest) _ _ inside fields field = resized _ fields field _ (length rest) (plain_byte st.InField Inside c rest (reads rest) refl refl fields field)

@@ -1,5 +1,5 @@
 -- Numbers of 64 bits as `parse` reads them.
-use Rattle.std.proofs.Common.{◌≡◌, ◌≢◌, ℕ, zero, suc, ◌+◌, ◌-◌, ◌*◌, ◌<◌, ◌≤◌, ◌^◌, Bool, true, false, cond, List, [], ◌∷◌, length, drop, get_or, fold, Option, Some, None, Result, Ok, Err, ℤ, pos, neg_ℤ, refl, ap, sym, ◌∙◌, subst, arith, eq-eqb, eqb-true}
+use Rattle.std.proofs.Common.{◌≡◌, ◌≢◌, ℕ, ◌+◌, ◌-◌, ◌*◌, ◌<◌, ◌≤◌, ◌^◌, Bool, true, false, List, [], ◌∷◌, length, get_or, fold, Some, None, Result, Ok, Err, ℤ, pos, neg_ℤ, refl, ap, sym, ◌∙◌, arith, eq-eqb, eqb-true}
 use Rattle.std.specs.Prelude.{nat_lt, option_and_then, option_map, ◌&&◌, ◌==◌, int_le, int_lt}
 use Rattle.std.specs.Char.{is_ascii_digit}
 use Rattle.std.specs.List.{list_all}
@@ -11,7 +11,6 @@ use Rattle.std.proofs.lemmas.Int.{ints}
 use Rattle.std.proofs.lemmas.Str.Parse.{FoldsDigits, IsNumeralModel, numerals_by_fold, parse_signed_minus, parse_signed_plain, tells_all_ascii_digits}
 use mir.Syntax.{w64}
 use Rattle.tt_value.specs.calendar.Reading.{digits_value}
-use Rattle.tt_value.specs.declared.value.Value.{Value}
 use Rattle.tt_value.specs.declared.value.Value.TheVariants.{Int}
 use Rattle.tt_value.specs.trees.Expressions.{in_range}
 use Rattle.tt_plain.specs.meaning.StagedRows.{digits_of, signed_of}

@@ -1,5 +1,5 @@
 -- What is answered where a staged file is refused.
-use Rattle.std.specs.Prelude.{◌≡◌, List, None, Option, Some, [], length, option_and_then, ⊤, ℕ}
+use Rattle.std.specs.Prelude.{◌≡◌, List, None, Option, Some, [], length, option_and_then, ⊤}
 use Rattle.tt_value.specs.declared.value.Row.{Row}
 use Rattle.tt_history.specs.declared.reply.Refusal.{Refusal}
 use Rattle.tt_sql.specs.meaning.Changes.{BadData, Changed, Changes, NullInRow, OutOfRange}

@@ -58,7 +58,9 @@ fn cell(
 {
     match value_of(alloc, column.kind, field)? {
         None => Err(StagedError::Refused(Refusal::BadData(number, place))),
-        Some(Value::Null) if !column.nullable => Err(StagedError::Refused(Refusal::NullInRow(place))),
+        Some(Value::Null) if !column.nullable => Err(StagedError::Refused(Refusal::NullInRow(
+            place,
+        ))),
         Some(value) => Ok(value),
     }
 }

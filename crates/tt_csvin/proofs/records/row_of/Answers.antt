@@ -1,9 +1,8 @@
-use Rattle.std.proofs.Common.{◌≡◌, ◌+◌, ◌<◌, ◌∙◌, ◌++◌, ◌∷◌, [], List, ℕ, Some, None, length, sym, ap, refl, subst, arith}
-use Rattle.std.specs.Prelude.{slice_get}
+use Rattle.std.proofs.Common.{◌<◌, ◌∙◌, ◌++◌, ◌∷◌, [], length, sym, ap, refl, arith}
 use Rattle.std.proofs.lemmas.Option.{slice_get-get_or, slice_get_read}
 use Rattle.csv.specs.Records.{fields_of}
 use Rattle.tt_value.specs.declared.value.Value.{Value}
-use Rattle.tt_csvin.proofs.Cells.{all_read, fault_here, field_at_is, one_more, refused_here}
+use Rattle.tt_csvin.proofs.Cells.{fault_here, field_at_is, one_more, refused_here}
 use Rattle.tt_csvin.proofs.records.row_of.Goals as goal
 
 pub unreachable-requires : goal.unreachable-requires

@@ -1,4 +1,4 @@
-use Rattle.std.proofs.Common.{◌≡◌, ◌+◌, ◌<◌, ◌≤◌, ◌^◌, ◌∙◌, ◌++◌, ◌∷◌, [], Bor, List, ℕ, Some, None, map, subst, length, sym, ap, refl, inl, inr, arith}
+use Rattle.std.proofs.Common.{◌≡◌, ◌+◌, ◌<◌, ◌^◌, ◌∙◌, ◌++◌, ◌∷◌, [], Bor, List, ℕ, Some, None, map, subst, length, sym, ap, refl, inl, inr, arith}
 use Rattle.std.proofs.lemmas.List.{length-append, length-map, map-append}
 use Rattle.csv.specs.Reading.{Reached, default_config, strip_bom}
 use Rattle.csv.specs.Records.{fields_of}
@@ -49,12 +49,12 @@ loop-record-preserved c =
     let s = rw (c.in-Some.is, c.in-Ok.is) at ((c.next.ensures.steps inv.2 inv.0).0 inv.1) in
     let m = rows-more (λ (s : Bor (List ℕ)). Some s.now) c.loop-record.record-iterator.rdr c.next.new.self.rdr fields default_config st.StartRecord (strip_bom c.args.file.now) inv.4 inv.6 inv.3 inv.5 inv.7 s.0 in
     let more : c.add_row.new.rows.items ≡ map (row_of_record columns) (inv.6 ++ fields ∷ []) =
-        c.in-Ok-add_row.ensures.row
-        ∙ ap (λ (cs : List Column). c.loop-record.rows.items ++ row_of_record cs fields ∷ []) c.items.ensures
-        ∙ ap (λ (rs : List Row). rs ++ row_of_record columns fields ∷ []) inv.8
-        ∙ sym (map-append (row_of_record columns) inv.6 (fields ∷ [])) in
+    c.in-Ok-add_row.ensures.row
+    ∙ ap (λ (cs : List Column). c.loop-record.rows.items ++ row_of_record cs fields ∷ []) c.items.ensures
+    ∙ ap (λ (rs : List Row). rs ++ row_of_record columns fields ∷ []) inv.8
+    ∙ sym (map-append (row_of_record columns) inv.6 (fields ∷ [])) in
     let fits : record_fault columns (length c.loop-record.rows.items + 1) fields ≡ None =
-        subst (λ (cs : List Column). record_fault cs (length c.loop-record.rows.items + 1) fields ≡ None) c.items.ensures c.in-Ok-add_row.ensures.sound in
+    subst (λ (cs : List Column). record_fault cs (length c.loop-record.rows.items + 1) fields ≡ None) c.items.ensures c.in-Ok-add_row.ensures.sound in
     let sound = one_record_more columns inv.6 fields (length c.loop-record.rows.items + 1) (as_many columns inv.6 c.loop-record.rows.items inv.8) inv.9 fits in
     (s.0.3 ∙ inv.0, inl s.1, s.3, s.0.2 ∙ inv.3, m.0, m.1, inv.6 ++ fields ∷ [], m.2, more, sound)
 
