@@ -1,30 +1,19 @@
 -- A CREATE TABLE on what is kept is its step on the store.
 use Rattle.std.specs.Option.{option_or}
-use Rattle.std.specs.Prelude.{Bool, List, None, Ok, Option, Some, [], bytes_eq, cond, false, find, is_none, length, map, option_map, refl, slice_get, slice_set, true, unwrap_or, ℕ, ◌&&◌, ◌++◌, ◌+◌, ◌-◌, ◌<◌, ◌∷◌, ◌≡◌, ◌≤◌, ◌^◌}
+use Rattle.std.specs.Prelude.{Bool, List, None, Option, Some, [], bytes_eq, cond, false, find, length, map, option_map, refl, slice_get, true, unwrap_or, ℕ, ◌&&◌, ◌++◌, ◌+◌, ◌-◌, ◌<◌, ◌∷◌, ◌≡◌, ◌≤◌}
 use Rattle.std.proofs.Common.{ap, arith, subst, suc, sym, zero, ◌∙◌}
 use Rattle.std.proofs.lemmas.Bool.{false≢true}
 use Rattle.std.proofs.lemmas.Slice.Eq.{bytes_eq-Decides}
 use Rattle.std.proofs.lemmas.List.{length_push, map-append}
 use Rattle.std.proofs.lemmas.List.Folds.{find-append}
-use Rattle.std.proofs.lemmas.Option.{none-some, same_Some}
 use Rattle.tt_value.specs.declared.value.Row.{Row}
 use Rattle.tt_script.specs.declared.script.Script.{Script}
-use Rattle.tt_sql.specs.declared.statement.Statement.{Statement}
-use Rattle.tt_sql.specs.declared.table.CreatedTable.{CreatedTable}
-use Rattle.tt_history.specs.Refusals.{refusal_number}
-use Rattle.tt_history.specs.declared.history.Entry.{Entry}
-use Rattle.tt_history.specs.declared.history.Told.{Told}
-use Rattle.tt_history.specs.declared.reply.Refusal.{Refusal}
-use Rattle.tt_history.specs.declared.reply.Reply.{Reply}
 use Rattle.tt_layout.specs.Numbers.{has}
 use Rattle.tt_names.specs.Changes.{bound}
 use Rattle.tt_names.specs.Registry.{Registry, live_of}
 use Rattle.tt_names.proofs.Laws.{live_of-bound}
 use Rattle.tt_plain.proofs.law.Lists.{every-append}
-use Rattle.tt_plain.specs.asked.Asked.{Asked, state_asked, table_asked}
-use Rattle.tt_plain.specs.asked.Turns.{asked_with}
 use Rattle.tt_plain.specs.declared.store.Plain.{Plain}
-use Rattle.tt_plain.specs.declared.store.PlainSession.{PlainSession}
 use Rattle.tt_plain.specs.declared.store.PlainTable.{PlainTable}
 use Rattle.tt_plain.specs.declared.tally.Tally.{Tally}
 use Rattle.tt_plain.specs.history.Contents.{rows_numbered}
@@ -34,12 +23,11 @@ use Rattle.tt_plain.specs.stored.Tables.{is_live}
 use Rattle.tt_plain.specs.tally.Facts.{facts_of_table}
 use Rattle.tt_plain.specs.tally.Layouts.{layouts_of}
 use Rattle.tt_partition.specs.Cuts.{table_with}
-use Rattle.tt_built.specs.Built.{built, is_built}
+use Rattle.tt_built.specs.Built.{built}
 use Rattle.tt_state_parts.specs.Keeps.{AreNames, ArePartNumbers, AreTrueParts, HasKeptParts, IsTruePart, KeepsTables, is_live_as, schema_of, table_of}
 use Rattle.tt_state_parts.specs.Kept.{Kept}
 use Rattle.tt_state_parts.specs.declared.part.StoredPart.{StoredPart}
 use Rattle.tt_state_parts.specs.declared.state.TableState.{TableState}
-use Rattle.tt_catalog_ddl.specs.Creates.{with_table}
 
 -- ---- one more at the end
 
@@ -68,7 +56,7 @@ same_tables : (tally : Tally) (begun moment count number : ℕ) (tables : List P
 same_tables tally begun moment count number [] all from_one le = refl
 same_tables tally begun moment count number (table ∷ tables) all from_one le =
     let here : layouts_of tally table.number ≡ layouts_of (more tally begun) table.number =
-        ap (λ o. unwrap_or o []) (get_front tally.layouts ((begun, []) ∷ []) (table.number - 1) (omega (arith, all.0.numbered, from_one, le))) in
+    ap (λ o. unwrap_or o []) (get_front tally.layouts ((begun, []) ∷ []) (table.number - 1) (omega (arith, all.0.numbered, from_one, le))) in
     ap (λ ls. record (table_of tally table) { facts = record (facts_of_table tally table) { layouts = ls } } ∷ map (table_of tally) tables) here
     ∙ ap (λ ts. table_of (more tally begun) table ∷ ts) (same_tables tally begun moment count (number + 1) tables all.1 (omega arith) (omega (arith, le)))
 
@@ -116,7 +104,7 @@ pub tables_made : (program : Script) (store : Plain) (contents : List (List Row)
     → KeepsTables (store.tables ++ table ∷ []) (more store.tally begun) contents now
 tables_made program store contents kept now table begun sound keeps numbered live free t n p =
     let own : layouts_of (more store.tally begun) table.number ≡ (begun, []) ∷ [] =
-        ap (λ o. unwrap_or o []) (get_last store.tally.layouts ((begun, []) ∷ []) (table.number - 1) (omega (arith, numbered, sound.layouts))) in
+    ap (λ o. unwrap_or o []) (get_last store.tally.layouts ((begun, []) ∷ []) (table.number - 1) (omega (arith, numbered, sound.layouts))) in
     record {
       tables = t ∙ ap (λ ts. ts ++ table_of (more store.tally begun) table ∷ []) (keeps.tables ∙ same_tables store.tally begun store.moment (length store.tables) 1 store.tables sound.tables (omega arith) (omega (arith, sound.layouts)))
           ∙ sym (map-append (table_of (more store.tally begun)) store.tables (table ∷ []));

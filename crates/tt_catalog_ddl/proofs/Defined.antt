@@ -1,41 +1,34 @@
 -- A definition goes on from what is kept before it, however it goes.
-use Rattle.std.specs.Prelude.{Bool, List, None, Ok, Option, Some, [], false, find, length, map, option_map, refl, slice_set, true, unwrap_or, ℕ, ◌++◌, ◌+◌, ◌-◌, ◌∷◌, ◌≡◌}
+use Rattle.std.specs.Prelude.{List, None, Ok, Option, Some, [], false, find, length, option_map, refl, slice_set, unwrap_or, ℕ, ◌++◌, ◌+◌, ◌-◌, ◌∷◌, ◌≡◌}
 use Rattle.std.proofs.Common.{ap, arith, subst, sym, ◌∙◌}
 use Rattle.std.proofs.lemmas.List.{length-map, length_push}
 use Rattle.std.proofs.lemmas.Option.{none-some}
 use Rattle.tt_value.specs.declared.value.Row.{Row}
-use Rattle.tt_script.specs.declared.script.Script.{Script}
 use Rattle.tt_sql.specs.declared.statement.Statement.{Statement}
 use Rattle.tt_sql.specs.declared.table.CreatedTable.{CreatedTable}
 use Rattle.tt_history.specs.Refusals.{refusal_number}
-use Rattle.tt_history.specs.declared.history.Entry.{Entry}
-use Rattle.tt_history.specs.declared.history.EntryKind.{EntryKind}
 use Rattle.tt_history.specs.declared.history.Told.{Told}
 use Rattle.tt_history.specs.declared.reply.Refusal.{Refusal}
 use Rattle.tt_history.specs.declared.reply.Reply.{Reply}
-use Rattle.tt_plain.specs.asked.Asked.{Asked, request_asked, state_asked, table_asked}
-use Rattle.tt_plain.specs.asked.Request.{Creates as CreatesTable, Definition}
+use Rattle.tt_plain.specs.asked.Asked.{Asked, state_asked, table_asked}
+use Rattle.tt_plain.specs.asked.Request.{Creates as CreatesTable}
 use Rattle.tt_plain.specs.declared.store.Plain.{Plain}
 use Rattle.tt_plain.specs.declared.store.PlainSession.{PlainSession}
 use Rattle.tt_plain.specs.declared.store.PlainTable.{PlainTable}
 use Rattle.tt_plain.specs.definition.Changes.{definition_changes}
-use Rattle.tt_plain.specs.definition.Create.{create_changes, table_created, schema_made}
+use Rattle.tt_plain.specs.definition.Create.{create_changes, table_created}
 use Rattle.tt_plain.specs.effect.Apply.{applied}
-use Rattle.tt_plain.specs.effect.Define.{define_effect, defined}
+use Rattle.tt_plain.specs.effect.Define.{defined}
 use Rattle.tt_plain.specs.effect.Effect.{Made, TableChange}
 use Rattle.tt_plain.specs.effect.Ending.{ended_with}
-use Rattle.tt_plain.specs.history.Contents.{contents_with}
-use Rattle.tt_plain.specs.history.Step.{step_of}
 use Rattle.tt_plain.specs.law.Sound.{IsSound}
 use Rattle.tt_plain.specs.refusal.First.{refusal_of}
 use Rattle.tt_plain.specs.stored.Names.{table_named}
 use Rattle.tt_plain.specs.stored.Points.{point_place}
 use Rattle.tt_plain.specs.stored.Sessions.{session_at}
 use Rattle.tt_plain.specs.tally.Changes.{MakesTable, TallyChange}
-use Rattle.tt_plain.specs.tally.Layouts.{layouts_of}
-use Rattle.tt_retain.specs.Retention.{first_retention}
 use Rattle.tt_names.specs.Changes.{bound}
-use Rattle.tt_built.specs.Built.{built, is_built}
+use Rattle.tt_built.specs.Built.{built}
 use Rattle.tt_state_parts.proofs.Ended.{closed_at, ended_goes, state_is}
 use Rattle.tt_state_parts.proofs.Goes.{GoesOn, alone_now, ended_less, same_marks, sessions_now}
 use Rattle.tt_state_parts.proofs.Histories.{contents_same, stands_sound}
@@ -45,7 +38,7 @@ use Rattle.tt_state_parts.proofs.Steps.{define_done, define_refused, define_star
 use Rattle.tt_state_parts.proofs.Turns.{IsNext, is_next, said_built}
 use Rattle.tt_state_parts.specs.Chronicle.{Chronicle, IsNextRead, entry_at, rows_of, store_of}
 use Rattle.tt_state_parts.specs.Keeps.{KeepsTables, StandsFor, is_live_as, table_of}
-use Rattle.tt_state_parts.specs.Kept.{Kept, live_kept}
+use Rattle.tt_state_parts.specs.Kept.{Kept}
 use Rattle.tt_state_parts.specs.Moves.{with_ended}
 use Rattle.tt_state_parts.specs.declared.state.TableState.{TableState}
 use Rattle.tt_history.specs.declared.history.EntryKind.TheVariants as kind
@@ -94,19 +87,21 @@ module _ (chronicle : Chronicle) (kept : Kept) (room session index : ℕ) (c : C
   pub refused_goes : (why : Refusal) → refusal_kept kept create (tree.Create create) ≡ Some why
       → (after : Plain) × GoesOn chronicle (with_ended chronicle.program kept session index) (entry_at store.moment session index (kind.Define (told.Refused (refusal_number why)))) after (Some (reply.Refused why))
   unfolding ended_with
-  refused_goes why e =
-      (applied store (ended_with asked (reply.Refused why)),
-      ended_goes chronicle kept room session index (Ok (tree.Create create)) stands next (kind.Define (told.Refused (refusal_number why))) (reply.Refused why)
-      (define_step built chronicle.program store session index asked (told.Refused (refusal_number why)) (ended_with asked (reply.Refused why)) read
-      (define_refused asked (CreatesTable create) closed refl why (sym refused_as ∙ e)) refl) refl)
+  refused_goes why e = (
+    applied store (ended_with asked (reply.Refused why)),
+    ended_goes chronicle kept room session index (Ok (tree.Create create)) stands next (kind.Define (told.Refused (refusal_number why))) (reply.Refused why)
+        (define_step built chronicle.program store session index asked (told.Refused (refusal_number why)) (ended_with asked (reply.Refused why)) read
+        (define_refused asked (CreatesTable create) closed refl why (sym refused_as ∙ e)) refl) refl,
+  )
 
   pub starved_goes : (after : Plain) × GoesOn chronicle (with_ended chronicle.program kept session index) (entry_at store.moment session index (kind.Define told.Memory)) after (Some reply.Memory)
   unfolding ended_with
-  starved_goes =
-      (applied store (ended_with asked reply.Memory),
-      ended_goes chronicle kept room session index (Ok (tree.Create create)) stands next (kind.Define told.Memory) reply.Memory
-      (define_step built chronicle.program store session index asked told.Memory (ended_with asked reply.Memory) read
-      (define_starved asked (CreatesTable create) closed refl) refl) refl)
+  starved_goes = (
+    applied store (ended_with asked reply.Memory),
+    ended_goes chronicle kept room session index (Ok (tree.Create create)) stands next (kind.Define told.Memory) reply.Memory
+        (define_step built chronicle.program store session index asked told.Memory (ended_with asked reply.Memory) read
+        (define_starved asked (CreatesTable create) closed refl) refl) refl,
+  )
 
   -- ---- made
 

@@ -1,7 +1,7 @@
 -- What a look-up that found a table, or none, and a statement that was checked, say.
 use Rattle.std.specs.Borrow.{Bor}
 use Rattle.std.specs.Option.{option_and_then, option_copied}
-use Rattle.std.specs.Prelude.{Bool, IfErr, List, None, OnOk, Option, Some, false, find, is_some, option_map, refl, true, ℕ, ◌+◌, ◌<◌, ◌^◌, ◌≡◌, length}
+use Rattle.std.specs.Prelude.{IfErr, List, None, OnOk, Option, Some, false, find, is_some, option_map, refl, true, ℕ, ◌+◌, ◌<◌, ◌^◌, ◌≡◌, length}
 use Rattle.std.specs.Result.{result_err}
 use Rattle.std.proofs.Common.{Err, Ok, Result, ap, arith, subst, sym, ◌∙◌}
 use Rattle.std.proofs.lemmas.Bool.{false≢true}
@@ -14,7 +14,6 @@ use Rattle.tt_sql.specs.declared.table.CreatedTable.{CreatedTable}
 use Rattle.tt_history.specs.declared.history.Told.{Told}
 use Rattle.tt_history.specs.declared.reply.Refusal.{Refusal}
 use Rattle.tt_history.specs.declared.reply.Reply.{Reply}
-use Rattle.tt_names.specs.Registry.{live_of}
 use Rattle.tt_plain.proofs.law.session.Views.{is_table}
 use Rattle.tt_plain.specs.TypingRefusal.{typing_refusal}
 use Rattle.tt_plain.specs.declared.store.PlainTable.{PlainTable}
@@ -24,7 +23,7 @@ use Rattle.tt_state_parts.proofs.Lookups.{found_at, number_tied}
 use Rattle.tt_state_parts.proofs.Owed.{few_statements}
 use Rattle.tt_state_parts.specs.Chronicle.{Chronicle, rows_of, store_of}
 use Rattle.tt_state_parts.specs.Keeps.{StandsFor, is_live_as, table_of}
-use Rattle.tt_state_parts.specs.Kept.{Kept, live_kept, table_kept}
+use Rattle.tt_state_parts.specs.Kept.{Kept, table_kept}
 use Rattle.tt_state_parts.specs.Moves.{IsReady}
 use Rattle.tt_state_parts.specs.declared.state.TableState.{TableState}
 use Rattle.tt_history.specs.declared.history.Told.TheVariants as told

@@ -1,4 +1,4 @@
-use Rattle.std.proofs.Common.{◌≡◌, sym, ◌∙◌}
+use Rattle.std.proofs.Common.{sym, ◌∙◌}
 use Rattle.tt_catalog_ddl.proofs.Lookups.{none_beside}
 use Rattle.tt_catalog_ddl.proofs.defining.carry_out.Goals as goal
 

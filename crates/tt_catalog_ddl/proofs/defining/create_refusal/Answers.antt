@@ -1,6 +1,5 @@
-use Rattle.std.proofs.Common.{◌≡◌, Some, sym, ap, ◌∙◌, []}
+use Rattle.std.proofs.Common.{Some, sym, ap, ◌∙◌}
 use Rattle.tt_history.specs.declared.reply.Refusal.TheVariants.{TableExists}
-use Rattle.tt_plain.specs.TypingRefusal.{typing_refusal}
 use Rattle.tt_catalog_ddl.specs.Creates.{refusal_beside}
 use Rattle.tt_catalog_ddl.proofs.Lookups.{copied_some, copied_none, checked}
 use Rattle.tt_catalog_ddl.proofs.defining.create_refusal.Goals as goal
