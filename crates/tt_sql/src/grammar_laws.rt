@@ -1,6 +1,6 @@
 //! Laws of the grammar of statements. They compute nothing.
 
-ghost use Rattle.std.specs.Prelude.{◌≡◌, ℕ, List, [], ◌∷◌, ◌++◌, map, codes, replicate, Ok, Err};
+ghost use Rattle.std.specs.Prelude.{◌≡◌, ℕ, List, [], ◌∷◌, ◌++◌, length, map, codes, replicate, Ok, Err};
 ghost use Rattle.tt_lex.specs.declared.Token.{Token};
 ghost use Rattle.std.specs.Prelude.{pos, neg_ℤ};
 ghost use Rattle.tt_sql.specs.grammar.Grammar.{Lexeme, Mark, Way, At, Said, Meant};
@@ -10,7 +10,7 @@ ghost use Rattle.tt_sql.specs.grammar.Statements.{IsStatement, HasFaultAt};
 ghost use Rattle.tt_sql.specs.machine.Reading.{read_run};
 ghost use Rattle.tt_sql.specs.grammar.TokenKinds.{kind_count, lexemes, word_kind, number_kind, text_kind, sign_kind, unquoted, reserved_words, other_words, signs, NAME, LONG_NAME, SHORT_NUMBER, NUMBER, LEAST_NUMBER, LARGE_NUMBER, DATE_TEXT, TIME_TEXT, UNIT_TEXT, NAME_TEXT, OTHER_TEXT};
 ghost use Rattle.tt_lex.specs.Lexis.{Quoted, spelling};
-ghost use Rattle.tt_sql.specs.grammar.KindExamples.{words_in_order, signs_in_order};
+ghost use Rattle.tt_sql.specs.grammar.KindExamples.{words_in_order, signs_in_order, later_words};
 
 /// A machine that looks at one token at a time reads just the statements of the grammar as it is written, with
 /// at most so many open levels. Where the tokens are none it stops at the place of their fault.
@@ -45,6 +45,7 @@ pub fn kinds_are_of_their_words()
     ensures words { map word_kind (reserved_words ++ other_words) ≡ words_in_order }
     ensures signs { map sign_kind signs ≡ signs_in_order }
     ensures unequal { sign_kind (codes "!=") ≡ sign_kind (codes "<>") }
+    ensures later { map word_kind later_words ≡ replicate (length later_words) NAME }
     // 64 and 65 bytes of a name
     ensures name { word_kind (replicate 64 65) ≡ NAME }
     ensures long_name { word_kind (replicate 65 65) ≡ LONG_NAME }
@@ -80,6 +81,8 @@ pub fn statements_by_example()
         (At 0 ∷ Meant (neg_ℤ (pos 9223372036854775808)) 7 ∷ number_item ++ from_t 34) }
     ensures minus_of_a_number_opens_no_level { Notes 0 (tokens (codes "SELECT - 5 FROM t"))
         (At 0 ∷ Meant (neg_ℤ (pos 5)) 7 ∷ number_item ++ from_t 16) }
+    ensures temporary_is_a_name { Notes 256 (tokens (codes "DROP TABLE temporary"))
+        (Said (codes "TEMPORARY") 11 ∷ Way 7 ∷ []) }
     ensures view_of_storage { Notes 256
         (tokens (codes "SELECT * FROM information_schema . table_storage_metrics"))
         (Way 17 ∷ []) }
@@ -113,6 +116,10 @@ pub fn faults_by_example()
     ensures wrong_unit { Faults 256 (tokens (codes "CALL SYSTEM$WAIT ( 3 , 'weeks' )")) 32 23 }
     ensures no_such_day { Faults 256
         (tokens (codes "DELETE FROM t WHERE x = DATE '2023-02-29'")) 41 29 }
+    ensures no_temporary_table { Faults 256
+        (tokens (codes "CREATE TEMPORARY TABLE t ( x INT )")) 34 7 }
+    ensures no_table_in_front { Faults 256 (tokens (codes "SELECT t . x FROM t")) 19 9 }
+    ensures no_schema_in_front { Faults 256 (tokens (codes "DROP TABLE s . t")) 16 13 }
     ensures more_behind { Faults 256 (tokens (codes "COMMIT WORK WORK")) 16 12 }
     // SELECT * FROM t WHERE with 256 and with 257 opening brackets behind it
     ensures levels_left { Faults 256 (deep 256) 533 533 }

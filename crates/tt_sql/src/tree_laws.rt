@@ -1,7 +1,7 @@
 //! A tree is determined by the marks of its derivation. These laws compute nothing.
 
 ghost use Rattle.std.specs.Prelude.{◌≡◌, ℕ};
-ghost use Rattle.std.specs.Prelude.{Some, Ok, Err, List, length, ◌↔◌, ◌⊎◌};
+ghost use Rattle.std.specs.Prelude.{Some, Ok, Err, List, length, ◌++◌, ◌↔◌, ◌⊎◌};
 ghost use Rattle.tt_lex.specs.declared.Token.{Token};
 ghost use Rattle.tt_lex.specs.declared.LexFault.{LexFault};
 ghost use Rattle.tt_lex.specs.TokensOf.{tokens_of};
@@ -15,33 +15,48 @@ ghost use Rattle.tt_sql.specs.determined.Statements.{IsGivenStatement};
 ghost use Rattle.tt_sql.specs.trees.Statements.{IsWrittenStatement};
 ghost use Rattle.tt_sql.specs.marks.Statements.{statement_marks};
 ghost use Rattle.tt_sql.specs.machine.StatementTrees.{statement_tree};
-ghost use Rattle.tt_sql.specs.marks.Queries.{query_marks};
-ghost use Rattle.tt_sql.specs.determined.Marks.{AreToldApartBy};
-ghost use Rattle.tt_sql.specs.determined.Queries.{IsGivenQuery};
+ghost use Rattle.tt_sql.specs.declared.query.Query.{Query};
+ghost use Rattle.tt_sql.specs.machine.QueryTrees.{marked_query};
+ghost use Rattle.tt_sql.specs.marks.Queries.{join_marks, query_marks};
+ghost use Rattle.tt_sql.specs.trees.Queries.{IsWrittenQuery};
+ghost use Rattle.tt_sql.specs.determined.Marks.{AreToldApartBy, IsAny};
+ghost use Rattle.tt_sql.specs.determined.Queries.{IsGivenJoin, IsGivenQuery};
 ghost use Rattle.tt_sql.specs.determined.Expressions.{IsGivenExpr, IsGivenTerm, IsGivenFactor, IsGivenPredicate, IsGivenUnit};
-ghost use Rattle.tt_sql.specs.marks.Expressions.{expr_marks, term_marks, factor_marks, predicate_marks, unit_marks};
+ghost use Rattle.tt_sql.specs.marks.Expressions.{column_marks, table_marks, expr_marks, term_marks, factor_marks, predicate_marks, unit_marks};
 
-/// Two expressions that the grammar gives are the same if their derivations note the same marks. So are two
-/// terms, and two factors.
+/// Two expressions are the same if they note the same marks, also with prefixes of names. So are two terms, and
+/// two factors.
 pub fn expressions_are_determined()
     ensures expression { AreToldApartBy IsGivenExpr expr_marks }
     ensures term { AreToldApartBy IsGivenTerm term_marks }
     ensures factor { AreToldApartBy IsGivenFactor factor_marks }
 {}
 
-/// Two predicates that the grammar gives are the same if their derivations note the same marks. So are two units.
+/// Two predicates are the same if they note the same marks, also with prefixes of names. So are two units.
 pub fn predicates_are_determined()
     ensures predicate { AreToldApartBy IsGivenPredicate predicate_marks }
     ensures single { AreToldApartBy IsGivenUnit unit_marks }
 {}
 
-/// Two queries that the grammar gives are the same if their derivations note the same marks.
-pub fn queries_are_determined()
-    ensures query { AreToldApartBy IsGivenQuery query_marks }
+/// Two names of columns are the same if they note the same marks, with a table's name in front or without. So are
+/// two names of tables.
+pub fn names_are_determined()
+    ensures column { AreToldApartBy IsAny column_marks }
+    ensures table { AreToldApartBy IsAny table_marks }
 {}
 
-/// Two statements that the grammar gives are the same if their derivations note the same marks: each is read back
-/// from its marks.
+/// Two queries are the same if they note the same marks, those with further tables too: each is read back from its
+/// marks, whatever follows. All that the grammar gives are among them.
+pub fn queries_are_determined()
+    ensures query { AreToldApartBy IsGivenQuery query_marks }
+    ensures join { AreToldApartBy IsGivenJoin join_marks }
+    ensures read { (q : Query) (rest : List Mark)
+        → IsGivenQuery q → marked_query (query_marks q ++ rest) ≡ Some (q, rest) }
+    ensures given { (levels : ℕ) (q : Query) → IsWrittenQuery levels q → IsGivenQuery q }
+{}
+
+/// Two statements are the same if they note the same marks: each is read back from its marks. All that the grammar
+/// gives are among them, and those with further tables and with prefixes of names.
 pub fn statements_are_determined()
     ensures read { (s : Statement)
         → IsGivenStatement s → statement_tree (statement_marks s) ≡ Some s }

@@ -21,24 +21,24 @@ use Rattle.tt_value.specs.declared.predicate.Unit.TheVariants.{rolls-Not, rolls-
 use Rattle.tt_value.specs.declared.predicate.Unit.TheFolds.{fold-roll-Predicate, fold-roll-Conjunction, fold-roll-Unit}
 use Rattle.tt_value.specs.values.RowText.{IsPrintableValue}
 use Rattle.tt_sql.specs.trees.Lists.{IsListed, Each}
-use Rattle.tt_sql.specs.determined.Expressions.{Leaf, OfLiteral, OfColumn, AreGiven, joined, operand_leaves, literals_leaves, unit_layer, conjunction_layer, predicate_layer, unit_leaves, conjunction_leaves, predicate_leaves, factor_layer, addend_layer, expr_layer, term_layer, expr_leaves, term_leaves, addend_leaves, factor_leaves}
+use Rattle.tt_sql.specs.determined.Expressions.{AreGiven, joined, operand_leaves, unit_layer, conjunction_layer, predicate_layer, unit_leaves, conjunction_leaves, predicate_leaves, factor_layer, addend_layer, expr_layer, term_layer, expr_leaves, term_leaves, addend_leaves, factor_leaves}
 
 abbrev L : Type 0
-L = List Leaf
+L = List Literal
 
-pub given_both : (xs ys : List Leaf) → AreGiven (xs ++ ys) → AreGiven xs × AreGiven ys
+pub given_both : (xs ys : List Literal) → AreGiven (xs ++ ys) → AreGiven xs × AreGiven ys
 given_both [] ys g = (tt, g)
 given_both (x ∷ xs) ys g = let both = given_both xs ys g.1 in ((g.0, both.0), both.1)
 
-pub given_each : {A : Type 0} (leaves : A → List Leaf) (xs : List A) → AreGiven (joined (map leaves xs)) → Each (λ x. AreGiven (leaves x)) xs
+pub given_each : {A : Type 0} (leaves : A → List Literal) (xs : List A) → AreGiven (joined (map leaves xs)) → Each (λ x. AreGiven (leaves x)) xs
 given_each leaves [] g = tt
 given_each leaves (x ∷ xs) g = let both = given_both (leaves x) (joined (map leaves xs)) g in (both.0, given_each leaves xs both.1)
 
-pub leaves-Literal : (l : Literal) → factor_leaves (factor.Literal l) ≡ OfLiteral l ∷ []
+pub leaves-Literal : (l : Literal) → factor_leaves (factor.Literal l) ≡ l ∷ []
 unfolding factor_leaves
 leaves-Literal l = ap factor_leaves (sym (rolls-Literal l)) ∙ fold-roll-Factor L L L L factor_layer addend_layer expr_layer term_layer _
 
-pub leaves-Column : (c : ColumnName) → factor_leaves (factor.Column c) ≡ OfColumn c ∷ []
+pub leaves-Column : (c : ColumnName) → factor_leaves (factor.Column c) ≡ []
 unfolding factor_leaves
 leaves-Column c = ap factor_leaves (sym (rolls-Column c)) ∙ fold-roll-Factor L L L L factor_layer addend_layer expr_layer term_layer _
 
@@ -64,10 +64,6 @@ leaves-Expr t others = fold-roll-Expr L L L L factor_layer addend_layer expr_lay
 
 -- ---- predicates
 
-pub given_literals : (literals : List Literal) → AreGiven (literals_leaves literals) → Each (λ l. IsPrintableValue l.value) literals
-given_literals [] g = tt
-given_literals (l ∷ literals) g = (g.0, given_literals literals g.1)
-
 pub leaves-Not : (u : Test) → unit_leaves (unit.Not u) ≡ unit_leaves u
 unfolding unit_leaves
 leaves-Not u = ap unit_leaves (sym (rolls-Not u)) ∙ fold-roll-Unit L L L unit_layer conjunction_layer predicate_layer _
@@ -84,15 +80,15 @@ pub leaves-IsNull : (a : Operand) (negated : Bool) → unit_leaves (unit.IsNull 
 unfolding unit_leaves
 leaves-IsNull a negated = ap unit_leaves (sym (rolls-IsNull a negated)) ∙ fold-roll-Unit L L L unit_layer conjunction_layer predicate_layer _
 
-pub leaves-In : (a : Operand) (negated : Bool) (literals : List Literal) → unit_leaves (unit.In a negated literals) ≡ operand_leaves a ++ literals_leaves literals
+pub leaves-In : (a : Operand) (negated : Bool) (literals : List Literal) → unit_leaves (unit.In a negated literals) ≡ operand_leaves a ++ literals
 unfolding unit_leaves
 leaves-In a negated literals = ap unit_leaves (sym (rolls-In a negated literals)) ∙ fold-roll-Unit L L L unit_layer conjunction_layer predicate_layer _
 
-pub leaves-Between : (a : Operand) (negated : Bool) (least greatest : Literal) → unit_leaves (unit.Between a negated least greatest) ≡ operand_leaves a ++ (OfLiteral least ∷ OfLiteral greatest ∷ [])
+pub leaves-Between : (a : Operand) (negated : Bool) (least greatest : Literal) → unit_leaves (unit.Between a negated least greatest) ≡ operand_leaves a ++ (least ∷ greatest ∷ [])
 unfolding unit_leaves
 leaves-Between a negated least greatest = ap unit_leaves (sym (rolls-Between a negated least greatest)) ∙ fold-roll-Unit L L L unit_layer conjunction_layer predicate_layer _
 
-pub leaves-StartsWith : (c : ColumnName) (front : Quoted) → unit_leaves (unit.StartsWith c front) ≡ OfColumn c ∷ []
+pub leaves-StartsWith : (c : ColumnName) (front : Quoted) → unit_leaves (unit.StartsWith c front) ≡ []
 unfolding unit_leaves
 leaves-StartsWith c front = ap unit_leaves (sym (rolls-StartsWith c front)) ∙ fold-roll-Unit L L L unit_layer conjunction_layer predicate_layer _
 
@@ -106,18 +102,14 @@ leaves-Predicate c others = fold-roll-Predicate L L L unit_layer conjunction_lay
 
 -- ---- and what is given part by part is given
 
-pub both_given : (xs ys : List Leaf) → AreGiven xs → AreGiven ys → AreGiven (xs ++ ys)
+pub both_given : (xs ys : List Literal) → AreGiven xs → AreGiven ys → AreGiven (xs ++ ys)
 both_given [] ys g h = h
 both_given (x ∷ xs) ys g h = (g.0, both_given xs ys g.1 h)
 
-pub each_given : {A : Type 0} (leaves : A → List Leaf) (xs : List A) → Each (λ x. AreGiven (leaves x)) xs → AreGiven (joined (map leaves xs))
+pub each_given : {A : Type 0} (leaves : A → List Literal) (xs : List A) → Each (λ x. AreGiven (leaves x)) xs → AreGiven (joined (map leaves xs))
 each_given leaves [] g = tt
 each_given leaves (x ∷ xs) g = both_given (leaves x) (joined (map leaves xs)) g.0 (each_given leaves xs g.1)
 
-literals_each : (literals : List Literal) → Each (λ l. IsPrintableValue l.value) literals → AreGiven (literals_leaves literals)
-literals_each [] g = tt
-literals_each (l ∷ literals) g = (g.0, literals_each literals g.1)
-
-pub literals_given : (literals : List Literal) → IsListed (λ l. IsPrintableValue l.value) literals → AreGiven (literals_leaves literals)
+pub literals_given : (literals : List Literal) → IsListed (λ l. IsPrintableValue l.value) literals → AreGiven literals
 literals_given [] g = tt
-literals_given (l ∷ literals) g = (g.0, literals_each literals g.1)
+literals_given (l ∷ literals) g = g

@@ -1,4 +1,4 @@
--- What is written is given: names stand alone, no list is empty, and dates are days of the years 1 to 9999.
+-- What is written is given: no list is empty, and dates are days of the years 1 to 9999.
 use Rattle.std.proofs.Common.{◌≡◌, ℕ, zero, suc, List, [], ◌∷◌, ◌++◌, map, Option, Some, None, sym, subst}
 use Rattle.std.specs.Prelude.{⊤}
 use Rattle.tt_value.specs.declared.name.Literal.{Literal}
@@ -25,26 +25,22 @@ use Rattle.tt_sql.specs.declared.change.InsertSource.TheVariants as sources
 use Rattle.tt_sql.specs.declared.query.Clause.{Clause}
 use Rattle.tt_sql.specs.declared.query.Item.{Item}
 use Rattle.tt_sql.specs.declared.query.Item.TheVariants as items
-use Rattle.tt_sql.specs.declared.query.KeyColumn.{KeyColumn}
-use Rattle.tt_sql.specs.declared.query.KeyColumn.TheVariants as keys
 use Rattle.tt_sql.specs.declared.query.Moment.{Moment}
 use Rattle.tt_sql.specs.declared.query.Moment.TheVariants as moments
 use Rattle.tt_sql.specs.declared.query.Query.{Query}
 use Rattle.tt_sql.specs.declared.query.Selection.{Selection}
 use Rattle.tt_sql.specs.declared.query.Selection.TheVariants as selections
-use Rattle.tt_sql.specs.declared.table.Change.{Change}
-use Rattle.tt_sql.specs.declared.table.Change.TheVariants as changes
 use Rattle.tt_sql.specs.declared.statement.Statement.{Statement}
 use Rattle.tt_sql.specs.declared.statement.Statement.TheVariants as statements
 use Rattle.tt_sql.specs.trees.Lists.{Each, IsListed, WhenThere}
-use Rattle.tt_sql.specs.determined.Expressions.{Leaf, OfLiteral, OfColumn, AreGiven, joined, factor_layer, addend_layer, expr_layer, term_layer, expr_leaves, addend_leaves, term_leaves, factor_leaves, operand_leaves, literals_leaves, unit_layer, conjunction_layer, predicate_layer, unit_leaves, conjunction_leaves, predicate_leaves, IsGivenFactor, IsGivenAddend, IsGivenTerm, IsGivenExpr, IsGivenUnit, IsGivenConjunction, IsGivenPredicate}
+use Rattle.tt_sql.specs.determined.Expressions.{AreGiven, joined, factor_layer, addend_layer, expr_layer, term_layer, expr_leaves, addend_leaves, term_leaves, factor_leaves, operand_leaves, unit_layer, conjunction_layer, predicate_layer, unit_leaves, conjunction_leaves, predicate_leaves, IsGivenFactor, IsGivenAddend, IsGivenTerm, IsGivenExpr, IsGivenUnit, IsGivenConjunction, IsGivenPredicate}
 use Rattle.tt_sql.proofs.determined.Expressions.{both_given, each_given, literals_given}
-use Rattle.tt_sql.specs.determined.Queries.{IsGivenItem, IsGivenSelection, IsGivenMoment, IsGivenClause, IsGivenKeyColumn, IsGivenQuery}
-use Rattle.tt_sql.specs.determined.Statements.{IsGivenInsertSource, IsGivenDml, IsGivenChange, IsGivenStatement}
+use Rattle.tt_sql.specs.determined.Queries.{IsGivenItem, IsGivenSelection, IsGivenMoment, IsGivenClause, IsGivenJoin, IsGivenQuery}
+use Rattle.tt_sql.specs.determined.Statements.{IsGivenInsertSource, IsGivenDml, IsGivenStatement}
 use Rattle.tt_sql.specs.trees.Leaves.{IsWrittenValue}
 use Rattle.tt_sql.specs.trees.Expressions.{IsWrittenLiteral, IsWrittenOperand, TermHas, AddendHas, ExprHas, FactorHas, IsWrittenFactor, IsWrittenExpr, ConjunctionHas, PredicateHas, UnitHas, IsWrittenUnit, IsWrittenPredicate}
-use Rattle.tt_sql.specs.trees.Queries.{IsWrittenItem, IsWrittenSelection, IsWrittenMoment, IsWrittenClause, IsWrittenKeyColumn, IsWrittenQuery}
-use Rattle.tt_sql.specs.trees.Statements.{IsWrittenInsertSource, IsWrittenDml, IsWrittenChange, IsWrittenStatement}
+use Rattle.tt_sql.specs.trees.Queries.{IsWrittenItem, IsWrittenSelection, IsWrittenMoment, IsWrittenClause, IsWrittenQuery}
+use Rattle.tt_sql.specs.trees.Statements.{IsWrittenInsertSource, IsWrittenDml, IsWrittenStatement}
 
 -- ---- lists
 
@@ -77,7 +73,7 @@ literal_given l is = value_given l.value is
 -- ---- expressions
 
 abbrev L : Type 0
-L = List Leaf
+L = List Literal
 
 term_leaves-out : (t : Term) → term_leaves t ≡ factor_leaves (out-Term t).first ++ joined (map factor_leaves (out-Term t).others)
 unfolding term_leaves factor_leaves
@@ -91,9 +87,9 @@ expr_leaves-out : (e : Expr) → expr_leaves e ≡ term_leaves (out-Expr e).firs
 unfolding expr_leaves term_leaves addend_leaves
 expr_leaves-out e = fold_out-Expr L L L L factor_layer addend_layer expr_layer term_layer e
 
-abbrev layer_leaves : Factor-F Factor Addend Expr Term → List Leaf
-layer_leaves (Factor-F.Literal l) = OfLiteral l ∷ []
-layer_leaves (Factor-F.Column c) = OfColumn c ∷ []
+abbrev layer_leaves : Factor-F Factor Addend Expr Term → List Literal
+layer_leaves (Factor-F.Literal l) = l ∷ []
+layer_leaves (Factor-F.Column c) = []
 layer_leaves (Factor-F.Bracket place e) = expr_leaves e
 layer_leaves (Factor-F.Negated place f) = factor_leaves f
 
@@ -116,7 +112,7 @@ module _ (P : Factor → Type 0) (good : (f : Factor) → P f → IsGivenFactor 
 
   layer_given : (y : Factor-F Factor Addend Expr Term) → FactorHas P y → AreGiven (layer_leaves y)
   layer_given (Factor-F.Literal l) has = (literal_given l has, tt)
-  layer_given (Factor-F.Column c) has = (has.0, tt)
+  layer_given (Factor-F.Column c) has = tt
   layer_given (Factor-F.Bracket place e) has = expr_given_by e has
   layer_given (Factor-F.Negated place f) has = good f has.0
 
@@ -141,14 +137,14 @@ predicate_leaves-out : (p : Predicate) → predicate_leaves p ≡ conjunction_le
 unfolding predicate_leaves conjunction_leaves
 predicate_leaves-out p = fold_out-Predicate L L L unit_layer conjunction_layer predicate_layer p
 
-abbrev unit_layer_leaves : Unit-F Test Conjunction Predicate → List Leaf
+abbrev unit_layer_leaves : Unit-F Test Conjunction Predicate → List Literal
 unit_layer_leaves (Unit-F.Not u) = unit_leaves u
 unit_layer_leaves (Unit-F.Bracket p) = predicate_leaves p
 unit_layer_leaves (Unit-F.Compare a c b) = operand_leaves a ++ operand_leaves b
 unit_layer_leaves (Unit-F.IsNull a negated) = operand_leaves a
-unit_layer_leaves (Unit-F.In a negated literals) = operand_leaves a ++ literals_leaves literals
-unit_layer_leaves (Unit-F.Between a negated least greatest) = operand_leaves a ++ (OfLiteral least ∷ OfLiteral greatest ∷ [])
-unit_layer_leaves (Unit-F.StartsWith c front) = OfColumn c ∷ []
+unit_layer_leaves (Unit-F.In a negated literals) = operand_leaves a ++ literals
+unit_layer_leaves (Unit-F.Between a negated least greatest) = operand_leaves a ++ (least ∷ greatest ∷ [])
+unit_layer_leaves (Unit-F.StartsWith c front) = []
 
 unit_leaves_are : (y : Unit-F Test Conjunction Predicate) → unit_leaves (roll-Unit y) ≡ unit_layer_leaves y
 unfolding unit_leaves predicate_leaves
@@ -161,7 +157,7 @@ unit_leaves_are (Unit-F.Between a negated least greatest) = fold-roll-Unit L L L
 unit_leaves_are (Unit-F.StartsWith c front) = fold-roll-Unit L L L unit_layer conjunction_layer predicate_layer _
 
 operand_given : (a : Operand) → IsWrittenOperand a → AreGiven (operand_leaves a)
-operand_given (operands.Column c) is = (is.0, tt)
+operand_given (operands.Column c) is = tt
 operand_given (operands.Literal l) is = (literal_given l is, tt)
 
 module _ (P : Test → Type 0) (good : (u : Test) → P u → IsGivenUnit u) where
@@ -176,9 +172,9 @@ module _ (P : Test → Type 0) (good : (u : Test) → P u → IsGivenUnit u) whe
   unit_layer_given (Unit-F.Bracket p) has = predicate_given_by p has
   unit_layer_given (Unit-F.Compare a c b) has = both_given (operand_leaves a) (operand_leaves b) (operand_given a has.0) (operand_given b has.1)
   unit_layer_given (Unit-F.IsNull a negated) has = operand_given a has
-  unit_layer_given (Unit-F.In a negated literals) has = both_given (operand_leaves a) (literals_leaves literals) (operand_given a has.0) (literals_given literals (listed_so IsWrittenLiteral IsPrintableLiteral literal_given literals has.1))
-  unit_layer_given (Unit-F.Between a negated least greatest) has = both_given (operand_leaves a) (OfLiteral least ∷ OfLiteral greatest ∷ []) (operand_given a has.0) (literal_given least has.1, (literal_given greatest has.2, tt))
-  unit_layer_given (Unit-F.StartsWith c front) has = (has.0.0, tt)
+  unit_layer_given (Unit-F.In a negated literals) has = both_given (operand_leaves a) literals (operand_given a has.0) (literals_given literals (listed_so IsWrittenLiteral IsPrintableLiteral literal_given literals has.1))
+  unit_layer_given (Unit-F.Between a negated least greatest) has = both_given (operand_leaves a) (least ∷ greatest ∷ []) (operand_given a has.0) (literal_given least has.1, (literal_given greatest has.2, tt))
+  unit_layer_given (Unit-F.StartsWith c front) has = tt
 
   unit_given_by : (u : Test) → UnitHas P (out-Unit u) → IsGivenUnit u
   unit_given_by u has = subst IsGivenUnit (roll-out-Unit u) (subst AreGiven (sym (unit_leaves_are (out-Unit u))) (unit_layer_given (out-Unit u) has))
@@ -196,10 +192,10 @@ predicate_given levels p has = predicate_given_by (IsWrittenUnit levels) (unit_g
 item_given : (levels : ℕ) (i : Item) → IsWrittenItem levels i → IsGivenItem i
 item_given levels (items.Expr e) is = expr_given levels e is
 item_given levels (items.CountAll place) is = tt
-item_given levels (items.Count place c) is = is.0
-item_given levels (items.Sum place c) is = is.0
-item_given levels (items.Min place c) is = is.0
-item_given levels (items.Max place c) is = is.0
+item_given levels (items.Count place c) is = tt
+item_given levels (items.Sum place c) is = tt
+item_given levels (items.Min place c) is = tt
+item_given levels (items.Max place c) is = tt
 
 selection_given : (levels : ℕ) (s : Selection) → IsWrittenSelection levels s → IsGivenSelection s
 selection_given levels (selections.All place) is = tt
@@ -213,19 +209,12 @@ moment_given (moments.Statement q) is = tt
 clause_given : (c : Clause) → IsWrittenClause c → IsGivenClause c
 clause_given c is = moment_given c.moment is
 
-key_column_given : (k : KeyColumn) → IsWrittenKeyColumn k → IsGivenKeyColumn k
-key_column_given (keys.Column c) is = is.0
-key_column_given (keys.Position n) is = tt
-
-query_given : (levels : ℕ) (q : Query) → IsWrittenQuery levels q → IsGivenQuery q
+pub query_given : (levels : ℕ) (q : Query) → IsWrittenQuery levels q → IsGivenQuery q
 query_given levels q is = record {
   selection = selection_given levels q.selection is.selection;
-  table = is.table.0.0;
-  joins = is.joins;
-  clause = there_so IsWrittenClause IsGivenClause clause_given q.first.clause is.table.1;
+  source = there_so IsWrittenClause IsGivenClause clause_given q.first.clause is.table.1;
+  joins = subst (Each IsGivenJoin) (sym is.joins) tt;
   filter = there_so (IsWrittenPredicate levels) IsGivenPredicate (predicate_given levels) q.filter is.filter;
-  group = each_so _ _ (λ c has. has.0) q.group is.group;
-  order = each_so _ _ (λ k has. key_column_given k.by has) q.order is.order;
 }
 
 -- ---- statements
@@ -235,29 +224,20 @@ source_given levels (sources.Values tuples) is = listed_so _ _ (λ t has. listed
 source_given levels (sources.Query q) is = query_given levels q is
 
 dml_given : (levels : ℕ) (d : Dml) → IsWrittenDml levels d → IsGivenDml d
-dml_given levels (dml.Insert i) is = (is.0.0, there_so _ _ (λ names has. listed_so _ (λ n. ⊤) (λ n named. tt) names has) i.columns is.1, source_given levels i.source is.2)
-dml_given levels (dml.Update u) is = (is.0.0, listed_so _ _ (λ s has. expr_given levels s.value has.1) u.sets is.1, there_so (IsWrittenPredicate levels) IsGivenPredicate (predicate_given levels) u.filter is.2)
-dml_given levels (dml.Delete d) is = (is.0.0, there_so (IsWrittenPredicate levels) IsGivenPredicate (predicate_given levels) d.filter is.1)
-dml_given levels (dml.Copy c) is = is.0.0
-
-change_given : (c : Change) → IsWrittenChange c → IsGivenChange c
-change_given (changes.RenameTo t) is = is.0
-change_given (changes.SwapWith t) is = is.0
-change_given (changes.SetRetention n) is = tt
-change_given (changes.ClusterBy n) is = tt
-change_given changes.DropClusteringKey is = tt
-change_given changes.SuspendRecluster is = tt
-change_given changes.ResumeRecluster is = tt
+dml_given levels (dml.Insert i) is = (there_so _ _ (λ names has. listed_so _ (λ n. ⊤) (λ n named. tt) names has) i.columns is.1, source_given levels i.source is.2)
+dml_given levels (dml.Update u) is = (listed_so _ _ (λ s has. expr_given levels s.value has.1) u.sets is.1, there_so (IsWrittenPredicate levels) IsGivenPredicate (predicate_given levels) u.filter is.2)
+dml_given levels (dml.Delete d) is = there_so (IsWrittenPredicate levels) IsGivenPredicate (predicate_given levels) d.filter is.1
+dml_given levels (dml.Copy c) is = tt
 
 pub statement_given : (levels : ℕ) (s : Statement) → IsWrittenStatement levels s → IsGivenStatement s
 statement_given levels (statements.Query q) is = query_given levels q is
 statement_given levels (statements.Dml d) is = dml_given levels d is
-statement_given levels (statements.Create c) is = (is.1.0, listed_so _ (λ d. ⊤) (λ d has. tt) c.columns is.2)
-statement_given levels (statements.Clone c) is = (is.1.0, (is.2.0.0, there_so IsWrittenClause IsGivenClause clause_given c.source.clause is.2.1))
-statement_given levels (statements.Drop t) is = is.0
-statement_given levels (statements.Undrop t) is = is.0
-statement_given levels (statements.Truncate t) is = is.0
-statement_given levels (statements.Alter a) is = (is.0.0, change_given a.change is.1)
+statement_given levels (statements.Create c) is = listed_so _ (λ d. ⊤) (λ d has. tt) c.columns is.2
+statement_given levels (statements.Clone c) is = there_so IsWrittenClause IsGivenClause clause_given c.source.clause is.2.1
+statement_given levels (statements.Drop t) is = tt
+statement_given levels (statements.Undrop t) is = tt
+statement_given levels (statements.Truncate t) is = tt
+statement_given levels (statements.Alter a) is = tt
 statement_given levels statements.Begin is = tt
 statement_given levels statements.Commit is = tt
 statement_given levels statements.Rollback is = tt
@@ -265,4 +245,4 @@ statement_given levels (statements.Wait w) is = tt
 statement_given levels (statements.Explain q) is = query_given levels q is
 statement_given levels (statements.Show history) is = tt
 statement_given levels statements.Metrics is = tt
-statement_given levels (statements.Depth t) is = is.0
+statement_given levels (statements.Depth t) is = tt

@@ -9,7 +9,7 @@ use Rattle.tt_sql.proofs.grammar.Predicates.{pred_there, pred_back}
 use Rattle.tt_sql.proofs.grammar.Queries.{more_factors, more_terms, factors_there, factors_back, terms_there, terms_back, item_there, item_back, aggregate_is_name}
 use Rattle.tt_sql.specs.grammar.TokenKinds.{WHERE, GROUP, BY, ORDER, LIMIT, SELECT, FROM, NAME, COMMA, STAR, EQUAL, SET, UPDATE, DELETE, INSERT, INTO, VALUES, CLONE, EXPLAIN, INFORMATION_SCHEMA, SYSTEM_CLUSTERING_DEPTH, is_name}
 use Rattle.tt_sql.specs.grammar.Combinators.{◌▸◌, ◌∣◌, way, one, placed, name, number, maybe, brackets, listed}
-use Rattle.tt_sql.specs.grammar.Written.{expr, pred, item, key, clause, query_end, query, tuple, insert, update, delete, copy, column, options, create_front, drop_table, undrop, truncate, alter, begin, commit, rollback, wait, show, metrics, depth, statement, written_rule}
+use Rattle.tt_sql.specs.grammar.Written.{expr, pred, item, key, clause, no_more, query_end, query, tuple, insert, update, delete, copy, column, options, create_front, drop_table, undrop, truncate, alter, begin, commit, rollback, wait, show, metrics, depth, statement, written_rule}
 use Rattle.tt_sql.specs.machine.Factored.{read_factors, read_terms, read_item, more_items, read_query_end, read_query, is_information, is_depth, items_end, read_select, read_insert, read_update, read_delete, read_create, read_statement, read_rule}
 
 -- ---- parts of statements, in either direction
@@ -37,9 +37,11 @@ module _ (rule other : Rule → ℕ → Gram) (lifted : Bool) where
   abbrev behind_where : Gram
   behind_where = maybe (one GROUP ▸ one BY ▸ listed name) ▸ maybe (one ORDER ▸ one BY ▸ listed key) ▸ maybe (one LIMIT ▸ number)
 
-  lax_query_end : (p q : Gram) → Lax rule other lifted p q → Lax rule other lifted (maybe clause ▸ where_end p ▸ behind_where) (maybe clause ▸ where_end q ▸ behind_where)
+  lax_query_end : (p q : Gram) → Lax rule other lifted p q → Lax rule other lifted (maybe clause ▸ no_more ▸ where_end p ▸ behind_where) (maybe clause ▸ no_more ▸ where_end q ▸ behind_where)
   unfolding plain empty
-  lax_query_end p q l = lax_after (maybe clause) (where_end p ▸ behind_where) (where_end q ▸ behind_where) refl (lax_before behind_where (where_end p) (where_end q) refl (lax_where p q l))
+  lax_query_end p q l =
+      lax_after (maybe clause) (no_more ▸ where_end p ▸ behind_where) (no_more ▸ where_end q ▸ behind_where) refl
+      (lax_after no_more (where_end p ▸ behind_where) (where_end q ▸ behind_where) refl (lax_before behind_where (where_end p) (where_end q) refl (lax_where p q l)))
 
   lax_query : (i j p q : Gram) → Strict rule other lifted i j → Lax rule other lifted p q → Lax rule other lifted (placed SELECT ▸ (placed STAR ▸ way 0 ∣ listed i ▸ way 1) ▸ one FROM ▸ name ▸ p) (placed SELECT ▸ (placed STAR ▸ way 0 ∣ listed j ▸ way 1) ▸ one FROM ▸ name ▸ q)
   unfolding plain empty

@@ -1,5 +1,5 @@
 -- Marks of an expression are read back as the expression.
-use Rattle.std.proofs.Common.{◌≡◌, ℕ, zero, suc, ◌+◌, ◌<◌, ◌≤◌, List, [], ◌∷◌, ◌++◌, map, length, Option, Some, None, is_none, refl, sym, ap, ◌∙◌, subst, append_assoc, length-append, true≢false, arith}
+use Rattle.std.proofs.Common.{◌≡◌, ℕ, zero, suc, ◌+◌, ◌<◌, ◌≤◌, List, [], ◌∷◌, ◌++◌, map, length, Option, Some, None, refl, sym, ap, ◌∙◌, subst, append_assoc, length-append, arith}
 use Rattle.tt_value.specs.declared.name.Literal.{Literal}
 use Rattle.tt_value.specs.declared.name.Name.{Name}
 use Rattle.tt_value.specs.declared.name.ColumnName.{ColumnName}
@@ -21,7 +21,7 @@ use Rattle.tt_sql.specs.marks.Expressions.{repeated, qualified, value_marks, sig
 use Rattle.tt_sql.proofs.marks.Expressions.{marks-Literal, marks-Column, marks-Bracket, marks-Negated, marks-Addend, marks-Term, marks-Expr}
 use Rattle.tt_sql.specs.trees.Lists.{Each}
 use Rattle.tt_sql.specs.determined.Expressions.{AreGiven, joined, term_leaves, addend_leaves, factor_leaves, IsGivenFactor, IsGivenAddend, IsGivenTerm, IsGivenExpr}
-use Rattle.tt_sql.proofs.determined.Expressions.{given_both, given_each, leaves-Literal, leaves-Column, leaves-Bracket, leaves-Negated, leaves-Addend, leaves-Term, leaves-Expr}
+use Rattle.tt_sql.proofs.determined.Expressions.{given_both, given_each, leaves-Literal, leaves-Bracket, leaves-Negated, leaves-Addend, leaves-Term, leaves-Expr}
 use Rattle.tt_sql.specs.machine.ExpressionTrees.{Reader, go_on, first_of, marked_many, marked_all, dated, marked_literal, term_rest, marked_term, signed, marked_addend, expr_rest_of, expr_rest, marked_expr_by, literal_factor, shut, behind, at_factor, factor_by, marked_factor, marked_expr}
 
 -- marks of trees that are shorter than n are read, whatever follows them
@@ -29,9 +29,6 @@ abbrev pub ReadsBack : {A : Type 0} → (A → List Mark) → (A → Type 0) →
 ReadsBack {A} marks ok n r = (x : A) → ok x → length (marks x) < n → (rest : List Mark) → r (marks x ++ rest) ≡ Some (x, rest)
 
 -- ---- lists
-
-pub some_is_none : {A : Type 0} (x : A) → Some x ≡ None → ⊥
-some_is_none x e = true≢false (sym (ap is_none e))
 
 pub many_reads : {A : Type 0} (marks : A → List Mark) (ok : A → Type 0) (n : ℕ) (r : Reader A) → ReadsBack marks ok n r → (k : ℕ) (xs : List A) → Each ok xs → length (repeated (map marks xs)) < n → length (repeated (map marks xs)) ≤ k → (rest : List Mark) → marked_many r k (repeated (map marks xs) ++ rest) ≡ Some (xs, rest)
 many_reads marks ok n r good zero [] each less enough rest = absurd (omega (arith, enough))
@@ -152,9 +149,9 @@ module _ (n : ℕ) (r : Reader Factor) (good : ReadsBack factor_marks IsGivenFac
   literal_case unread (Text text) place given rest = refl
   literal_case unread (Date day) place given rest = ap (λ (o : Option (Literal × List Mark)). go_on o literal_factor) (value_reads (Date day) place given (Way 0 ∷ rest))
 
-  column_case : (table : Option Name) (name : Name) → table ≡ None → (rest : List Mark) → factor_by r ((qualified table name ++ Way 1 ∷ []) ++ rest) ≡ Some (factor.Column (record { table = table; name = name }), rest)
-  column_case None name e rest = refl
-  column_case (Some front) name e rest = absurd (some_is_none front e)
+  column_case : (table : Option Name) (name : Name) (rest : List Mark) → factor_by r ((qualified table name ++ Way 1 ∷ []) ++ rest) ≡ Some (factor.Column (record { table = table; name = name }), rest)
+  column_case None name rest = refl
+  column_case (Some front) name rest = refl
 
   behind_repeated : (place : ℕ) (f : Factor) (ms : List (List Mark)) (rest : List Mark) → behind r place f (repeated ms ++ rest) ≡ go_on (expr_rest r f (repeated ms ++ rest)) (shut place)
   behind_repeated place f [] rest = refl
@@ -179,7 +176,7 @@ module _ (n : ℕ) (r : Reader Factor) (good : ReadsBack factor_marks IsGivenFac
   pub factor_by_reads : ((m : List Mark) → r (Way 0 ∷ m) ≡ None) → ReadsBack factor_marks IsGivenFactor (suc n) (factor_by r)
   factor_by_reads unread = by_factor (λ f. IsGivenFactor f → length (factor_marks f) < suc n → (rest : List Mark) → factor_by r (factor_marks f ++ rest) ≡ Some (f, rest))
       (λ l given less rest. ap (λ (z : List Mark). factor_by r (z ++ rest)) (marks-Literal l) ∙ literal_case unread l.value l.place (subst AreGiven (leaves-Literal l) given).0 rest)
-      (λ c given less rest. ap (λ (z : List Mark). factor_by r (z ++ rest)) (marks-Column c) ∙ column_case c.table c.name (subst AreGiven (leaves-Column c) given).0 rest)
+      (λ c given less rest. ap (λ (z : List Mark). factor_by r (z ++ rest)) (marks-Column c) ∙ column_case c.table c.name rest)
       (λ place e given less rest. ap (λ (z : List Mark). factor_by r (z ++ rest)) (marks-Bracket place e) ∙ bracket_case place e (subst AreGiven (leaves-Bracket place e) given) (omega (arith, ap length (marks-Bracket place e), length-append (expr_marks e) (Way 2 ∷ []), less)) rest)
       (λ place f given less rest. ap (λ (z : List Mark). factor_by r (z ++ rest)) (marks-Negated place f) ∙ negated_case place f (subst AreGiven (leaves-Negated place f) given) (omega (arith, ap length (marks-Negated place f), length-append (factor_marks f) (Way 3 ∷ []), less)) rest)
 

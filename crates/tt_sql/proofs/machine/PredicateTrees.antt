@@ -20,11 +20,11 @@ use Rattle.tt_value.specs.values.RowText.{IsPrintableValue}
 use Rattle.tt_sql.specs.grammar.Grammar.{Mark, Way}
 use Rattle.tt_sql.specs.marks.Expressions.{repeated, qualified, value_marks, literal_marks, listed_marks, flag_marks, quoted_marks, comparison_marks, operand_marks, unit_marks, conjunction_marks, predicate_marks}
 use Rattle.tt_sql.proofs.marks.Expressions.{marks-Not, marks-Group, marks-Compare, marks-IsNull, marks-In, marks-Between, marks-StartsWith, marks-Conjunction, marks-Predicate}
-use Rattle.tt_sql.specs.determined.Expressions.{OfLiteral, AreGiven, joined, operand_leaves, literals_leaves, unit_leaves, conjunction_leaves, IsGivenUnit, IsGivenConjunction, IsGivenPredicate}
-use Rattle.tt_sql.proofs.determined.Expressions.{given_both, given_each, given_literals, leaves-Not, leaves-Group, leaves-Compare, leaves-IsNull, leaves-In, leaves-Between, leaves-StartsWith, leaves-Conjunction, leaves-Predicate}
+use Rattle.tt_sql.specs.determined.Expressions.{AreGiven, joined, operand_leaves, unit_leaves, conjunction_leaves, IsGivenUnit, IsGivenConjunction, IsGivenPredicate}
+use Rattle.tt_sql.proofs.determined.Expressions.{given_both, given_each, leaves-Not, leaves-Group, leaves-Compare, leaves-IsNull, leaves-In, leaves-Between, leaves-Conjunction, leaves-Predicate}
 use Rattle.tt_sql.specs.machine.ExpressionTrees.{Reader, go_on, marked_all, marked_literal}
 use Rattle.tt_sql.specs.machine.PredicateTrees.{comparison_of, literal_operand, with_list, with_greatest, with_literal, with_way, behind_operand, conjunction_rest, marked_conjunction_by, predicate_rest, marked_predicate_by, unit_by, marked_unit, marked_predicate}
-use Rattle.tt_sql.proofs.machine.ExpressionTrees.{ReadsBack, some_is_none, all_reads, value_reads, one_tree}
+use Rattle.tt_sql.proofs.machine.ExpressionTrees.{ReadsBack, all_reads, value_reads, one_tree}
 
 -- ---- the shapes of trees
 
@@ -49,9 +49,9 @@ by_predicate P h p = subst P (roll-out-Predicate p) (h (out-Predicate p).first (
 -- ---- units without a unit inside
 
 module _ (r : Reader Test) where
-  column_first : (table : Option Name) (name : Name) → table ≡ None → (rest : List Mark) → unit_by r ((qualified table name ++ Way 0 ∷ []) ++ rest) ≡ behind_operand (operand.Column (record { table = table; name = name })) rest
-  column_first None name e rest = refl
-  column_first (Some front) name e rest = absurd (some_is_none front e)
+  column_first : (table : Option Name) (name : Name) (rest : List Mark) → unit_by r ((qualified table name ++ Way 0 ∷ []) ++ rest) ≡ behind_operand (operand.Column (record { table = table; name = name })) rest
+  column_first None name rest = refl
+  column_first (Some front) name rest = refl
 
   literal_first : (v : Value) (place : ℕ) → IsPrintableValue v → (rest : List Mark) → unit_by r ((value_marks v place ++ Way 1 ∷ []) ++ rest) ≡ behind_operand (operand.Literal (record { value = v; place = place })) rest
   literal_first Null place g rest = refl
@@ -60,7 +60,7 @@ module _ (r : Reader Test) where
   literal_first (Date day) place g rest = ap (λ (o : Option (Literal × List Mark)). go_on (go_on o literal_operand) behind_operand) (value_reads (Date day) place g (Way 1 ∷ rest))
 
   operand_first : (a : Operand) → AreGiven (operand_leaves a) → (rest : List Mark) → unit_by r (operand_marks a ++ rest) ≡ behind_operand a rest
-  operand_first (operand.Column c) g rest = column_first c.table c.name g.0 rest
+  operand_first (operand.Column c) g rest = column_first c.table c.name rest
   operand_first (operand.Literal l) g rest = literal_first l.value l.place g.0 rest
 
   -- an operand and what stands behind it
@@ -68,9 +68,9 @@ module _ (r : Reader Test) where
   on_operand a g m rest = ap (unit_by r) (append_assoc (operand_marks a) m rest) ∙ operand_first a g (m ++ rest)
 
 module _ (a : Operand) where
-  second_column : (i : ℕ) (table : Option Name) (name : Name) → table ≡ None → (rest : List Mark) → with_way a i (((qualified table name ++ Way 0 ∷ []) ++ Way 2 ∷ []) ++ rest) ≡ Some (unit.Compare a (comparison_of i) (operand.Column (record { table = table; name = name })), rest)
-  second_column i None name e rest = refl
-  second_column i (Some front) name e rest = absurd (some_is_none front e)
+  second_column : (i : ℕ) (table : Option Name) (name : Name) (rest : List Mark) → with_way a i (((qualified table name ++ Way 0 ∷ []) ++ Way 2 ∷ []) ++ rest) ≡ Some (unit.Compare a (comparison_of i) (operand.Column (record { table = table; name = name })), rest)
+  second_column i None name rest = refl
+  second_column i (Some front) name rest = refl
 
   second_literal : (i : ℕ) (v : Value) (place : ℕ) → IsPrintableValue v → (rest : List Mark) → with_way a i (((value_marks v place ++ Way 1 ∷ []) ++ Way 2 ∷ []) ++ rest) ≡ Some (unit.Compare a (comparison_of i) (operand.Literal (record { value = v; place = place })), rest)
   second_literal i Null place g rest = refl
@@ -79,7 +79,7 @@ module _ (a : Operand) where
   second_literal i (Date day) place g rest = ap (λ (o : Option (Literal × List Mark)). go_on o (with_literal a i)) (value_reads (Date day) place g (Way 1 ∷ Way 2 ∷ rest))
 
   second_operand : (i : ℕ) (b : Operand) → AreGiven (operand_leaves b) → (rest : List Mark) → with_way a i ((operand_marks b ++ Way 2 ∷ []) ++ rest) ≡ Some (unit.Compare a (comparison_of i) b, rest)
-  second_operand i (operand.Column c) g rest = second_column i c.table c.name g.0 rest
+  second_operand i (operand.Column c) g rest = second_column i c.table c.name rest
   second_operand i (operand.Literal l) g rest = second_literal i l.value l.place g.0 rest
 
   compare_end : (c : Comparison) (b : Operand) → AreGiven (operand_leaves b) → (rest : List Mark) → behind_operand a ((comparison_marks c ++ (operand_marks b ++ Way 2 ∷ [])) ++ rest) ≡ Some (unit.Compare a c b, rest)
@@ -110,15 +110,15 @@ module _ (a : Operand) where
   more_literals i l [] rest = refl
   more_literals i l (x ∷ literals) rest = another_literal i l x.value x.place (map literal_marks literals) rest
 
-  list_way : (i : ℕ) (l : Literal) (literals : List Literal) → IsPrintableValue l.value → AreGiven (literals_leaves literals) → (rest : List Mark) → with_way a i ((listed_marks (map literal_marks (l ∷ literals)) ++ Way 4 ∷ []) ++ rest) ≡ with_list a i l literals (Way 4 ∷ rest)
+  list_way : (i : ℕ) (l : Literal) (literals : List Literal) → IsPrintableValue l.value → AreGiven literals → (rest : List Mark) → with_way a i ((listed_marks (map literal_marks (l ∷ literals)) ++ Way 4 ∷ []) ++ rest) ≡ with_list a i l literals (Way 4 ∷ rest)
   list_way i l literals g gs rest =
       let ms = repeated (map literal_marks literals) in
       ap (with_way a i) (append_assoc (literal_marks l ++ ms) (Way 4 ∷ []) rest ∙ append_assoc (literal_marks l) ms (Way 4 ∷ rest))
       ∙ literal_way i l.value l.place g (ms ++ (Way 4 ∷ rest))
       ∙ more_literals i l literals (Way 4 ∷ rest)
-      ∙ ap (λ (o : Option (List Literal × List Mark)). go_on o (with_list a i l)) (all_reads literal_marks (λ x. IsPrintableValue x.value) (suc (length ms)) marked_literal (λ x h less later. value_reads x.value x.place h later) literals (given_literals literals gs) (omega arith) (Way 4 ∷ rest))
+      ∙ ap (λ (o : Option (List Literal × List Mark)). go_on o (with_list a i l)) (all_reads literal_marks (λ x. IsPrintableValue x.value) (suc (length ms)) marked_literal (λ x h less later. value_reads x.value x.place h later) literals gs (omega arith) (Way 4 ∷ rest))
 
-  in_end : (negated : Bool) (literals : List Literal) → AreGiven (literals_leaves literals) → (rest : List Mark) → behind_operand a ((flag_marks negated ++ (listed_marks (map literal_marks literals) ++ Way 4 ∷ [])) ++ rest) ≡ Some (unit.In a negated literals, rest)
+  in_end : (negated : Bool) (literals : List Literal) → AreGiven literals → (rest : List Mark) → behind_operand a ((flag_marks negated ++ (listed_marks (map literal_marks literals) ++ Way 4 ∷ [])) ++ rest) ≡ Some (unit.In a negated literals, rest)
   in_end false [] g rest = refl
   in_end true [] g rest = refl
   in_end false (l ∷ literals) g rest = list_way 0 l literals g.0 g.1 rest
@@ -140,9 +140,9 @@ module _ (a : Operand) where
   between_end false least greatest g h rest = between_way 0 least greatest g h rest
   between_end true least greatest g h rest = between_way 1 least greatest g h rest
 
-starts_case : (r : Reader Test) (table : Option Name) (name : Name) (front : Quoted) → table ≡ None → (rest : List Mark) → unit_by r ((qualified table name ++ (quoted_marks front ++ Way 6 ∷ [])) ++ rest) ≡ Some (unit.StartsWith (record { table = table; name = name }) front, rest)
-starts_case r None name front e rest = refl
-starts_case r (Some x) name front e rest = absurd (some_is_none x e)
+starts_case : (r : Reader Test) (table : Option Name) (name : Name) (front : Quoted) (rest : List Mark) → unit_by r ((qualified table name ++ (quoted_marks front ++ Way 6 ∷ [])) ++ rest) ≡ Some (unit.StartsWith (record { table = table; name = name }) front, rest)
+starts_case r None name front rest = refl
+starts_case r (Some x) name front rest = refl
 
 -- ---- predicates, given a reader of their units
 
@@ -174,11 +174,11 @@ module _ (n : ℕ) (r : Reader Test) (good : ReadsBack unit_marks IsGivenUnit n 
       (λ a c b given less rest. let parts = given_both (operand_leaves a) (operand_leaves b) (subst AreGiven (leaves-Compare a c b) given) in
       ap (λ (z : List Mark). unit_by r (z ++ rest)) (marks-Compare a c b) ∙ on_operand r a parts.0 (comparison_marks c ++ (operand_marks b ++ Way 2 ∷ [])) rest ∙ compare_end a c b parts.1 rest)
       (λ a negated given less rest. ap (λ (z : List Mark). unit_by r (z ++ rest)) (marks-IsNull a negated) ∙ on_operand r a (subst AreGiven (leaves-IsNull a negated) given) (flag_marks negated ++ Way 3 ∷ []) rest ∙ null_end a negated rest)
-      (λ a negated literals given less rest. let parts = given_both (operand_leaves a) (literals_leaves literals) (subst AreGiven (leaves-In a negated literals) given) in
+      (λ a negated literals given less rest. let parts = given_both (operand_leaves a) literals (subst AreGiven (leaves-In a negated literals) given) in
       ap (λ (z : List Mark). unit_by r (z ++ rest)) (marks-In a negated literals) ∙ on_operand r a parts.0 (flag_marks negated ++ (listed_marks (map literal_marks literals) ++ Way 4 ∷ [])) rest ∙ in_end a negated literals parts.1 rest)
-      (λ a negated least greatest given less rest. let parts = given_both (operand_leaves a) (OfLiteral least ∷ OfLiteral greatest ∷ []) (subst AreGiven (leaves-Between a negated least greatest) given) in
+      (λ a negated least greatest given less rest. let parts = given_both (operand_leaves a) (least ∷ greatest ∷ []) (subst AreGiven (leaves-Between a negated least greatest) given) in
       ap (λ (z : List Mark). unit_by r (z ++ rest)) (marks-Between a negated least greatest) ∙ on_operand r a parts.0 (flag_marks negated ++ (literal_marks least ++ (literal_marks greatest ++ Way 5 ∷ []))) rest ∙ between_end a negated least greatest parts.1.0 parts.1.1.0 rest)
-      (λ c front given less rest. ap (λ (z : List Mark). unit_by r (z ++ rest)) (marks-StartsWith c front) ∙ starts_case r c.table c.name front (subst AreGiven (leaves-StartsWith c front) given).0 rest)
+      (λ c front given less rest. ap (λ (z : List Mark). unit_by r (z ++ rest)) (marks-StartsWith c front) ∙ starts_case r c.table c.name front rest)
 
 -- ---- every level
 

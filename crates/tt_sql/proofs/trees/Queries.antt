@@ -158,15 +158,15 @@ order_trees = maybe_listed_trees (one ORDER ▸ one BY ▸ listed key) key_marks
 limit_trees : HasTrees (maybe (one LIMIT ▸ number)) (maybe_marks number_marks) (WhenThere IsWrittenNumber)
 limit_trees = maybe_trees (one LIMIT ▸ number) number_marks IsWrittenNumber (behind_word LIMIT nowhere number number_marks IsWrittenNumber number_trees)
 
-query_from : (levels place : ℕ) (h i j k l n o : List Mark) → Tree selection_marks (IsWrittenSelection levels) h → Tree table_marks IsWrittenTable i → Tree (maybe_marks clause_marks) (WhenThere IsWrittenClause) j → Tree (maybe_marks predicate_marks) (WhenThere (IsWrittenPredicate levels)) k → Tree (λ xs. maybe_listed (map column_marks xs)) (Each IsWrittenColumn) l → Tree (λ xs. maybe_listed (map key_marks xs)) (Each IsWrittenKey) n → Tree (maybe_marks number_marks) (WhenThere IsWrittenNumber) o → Tree query_marks (IsWrittenQuery levels) (At place ∷ (h ++ (i ++ (j ++ (k ++ (l ++ (n ++ o)))))))
+query_from : (levels place : ℕ) (h i j k l n o : List Mark) → Tree selection_marks (IsWrittenSelection levels) h → Tree table_marks IsWrittenTable i → Tree (maybe_marks clause_marks) (WhenThere IsWrittenClause) j → Tree (maybe_marks predicate_marks) (WhenThere (IsWrittenPredicate levels)) k → Tree (λ xs. maybe_listed (map column_marks xs)) (Each IsWrittenColumn) l → Tree (λ xs. maybe_listed (map key_marks xs)) (Each IsWrittenKey) n → Tree (maybe_marks number_marks) (WhenThere IsWrittenNumber) o → Tree query_marks (IsWrittenQuery levels) (At place ∷ (h ++ (i ++ (j ++ Way 0 ∷ (k ++ (l ++ (n ++ o)))))))
 query_from levels place h i j k l n o a b c d e f g = record {
   tree = record { place = place; selection = a.tree; first = record { table = b.tree; clause = c.tree }; joins = []; filter = d.tree; group = e.tree; order = f.tree; limit = g.tree };
   given = record { selection = a.given; table = (b.given, c.given); joins = refl; filter = d.given; group = e.given; order = f.given; limit = g.given };
-  same = ap (λ (x : List Mark). At place ∷ x) (joined_marks a.same (joined_marks b.same (joined_marks c.same (joined_marks d.same (joined_marks e.same (joined_marks f.same g.same))))));
+  same = ap (λ (x : List Mark). At place ∷ x) (joined_marks a.same (joined_marks b.same (joined_marks c.same (ap (λ (x : List Mark). Way 0 ∷ x) (joined_marks d.same (joined_marks e.same (joined_marks f.same g.same)))))));
 }
 
 pub query_trees : (levels : ℕ) → HasTrees (query levels) query_marks (IsWrittenQuery levels)
-query_trees levels done m after (pair (pair (word {t = t} e is) noted) (pair {between = b} {m = h} p (pair {between = c} (word f was) (pair {between = d} {m = i} q (pair {between = g} {m = j} r (pair {between = u} {m = k} s (pair {between = v} {m = l} x (pair {between = w} {m = n} {n = o} y z)))))))) =
+query_trees levels done m after (pair (pair (word {t = t} e is) noted) (pair {between = b} {m = h} p (pair {between = c} (word f was) (pair {between = d} {m = i} q (pair {between = g} {m = j} r (pair noted (pair {between = u} {m = k} s (pair {between = v} {m = l} x (pair {between = w} {m = n} {n = o} y z))))))))) =
     query_from levels t.place h i j k l n o
     (selection_trees levels (t ∷ done) h b p)
     (table_trees c i d q)

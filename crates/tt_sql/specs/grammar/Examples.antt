@@ -50,7 +50,7 @@ ways taken = map Way taken
 
 -- `FROM t` with t at this place, and nothing behind it
 abbrev pub from_t : ℕ → List Mark
-from_t place = Said (codes "T") place ∷ ways (0 ∷ 0 ∷ 0 ∷ 0 ∷ 0 ∷ 0 ∷ [])
+from_t place = Said (codes "T") place ∷ ways (0 ∷ 0 ∷ 0 ∷ 0 ∷ 0 ∷ 0 ∷ 0 ∷ [])
 
 -- behind a name or a number that is all of a selected item, and the last one
 abbrev pub column_item : List Mark

@@ -10,12 +10,13 @@ pub record Lexeme : Type 0 where
   pub place : ℕ
   pub text : List ℕ
 
--- What a derivation notes: which way it went, a place, a word or a text with its place, or a number with its
--- place.
+-- What a derivation notes: which way it went, a place, a word or a text with its place, a name with its place
+-- that stands in front of another name, or a number with its place.
 pub data Mark : Type 0 where
   Way : ℕ → Mark
   At : ℕ → Mark
   Said : List ℕ → ℕ → Mark
+  Prefix : List ℕ → ℕ → Mark
   Meant : ℤ → ℕ → Mark
 
 -- ---- grammars

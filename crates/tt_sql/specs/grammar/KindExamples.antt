@@ -1,5 +1,5 @@
 -- The kinds of words and signs in the order in which they are listed.
-use Rattle.std.specs.Prelude.{ℕ, List, [], ◌∷◌}
+use Rattle.std.specs.Prelude.{ℕ, List, [], ◌∷◌, codes}
 use Rattle.tt_sql.specs.grammar.TokenKinds.{SELECT, FROM, WHERE, GROUP, BY, ORDER, LIMIT, AND, OR, NOT, IN, IS, NULL, BETWEEN, AT, BEFORE, INSERT, INTO, VALUES, UPDATE, SET, DELETE, CREATE, TABLE, DROP, ALTER, COPY, CLONE, SWAP, WITH, INNER, JOIN, ON, AS, COUNT, SUM, MIN, MAX, STARTSWITH, DATE, ASC, DESC, TIMESTAMP, TIMESTAMP_NTZ, OFFSET, STATEMENT, REPLACE, TRANSIENT, INT, INTEGER, BIGINT, VARCHAR, STRING, TEXT, CLUSTER, DATA_RETENTION_TIME_IN_DAYS, UNDROP, TRUNCATE, RENAME, TO, CLUSTERING, KEY, SUSPEND, RECLUSTER, RESUME, BEGIN, WORK, TRANSACTION, START, COMMIT, ROLLBACK, CALL, SYSTEM_WAIT, EXPLAIN, SHOW, TABLES, HISTORY, INFORMATION_SCHEMA, TABLE_STORAGE_METRICS, SYSTEM_CLUSTERING_DEPTH, OPEN, CLOSE, COMMA, DOT, SEMICOLON, STAR, PLUS, MINUS, EQUAL, UNEQUAL, LESS, LESS_EQUAL, GREATER, GREATER_EQUAL, ARROW, DOUBLE_COLON}
 
 abbrev pub words_in_order : List ℕ
@@ -17,3 +17,7 @@ abbrev pub signs_in_order : List ℕ
 signs_in_order =
     OPEN ∷ CLOSE ∷ COMMA ∷ DOT ∷ SEMICOLON ∷ STAR ∷ PLUS ∷ MINUS ∷ EQUAL ∷ UNEQUAL ∷ LESS ∷ LESS_EQUAL ∷
     GREATER ∷ GREATER_EQUAL ∷ ARROW ∷ DOUBLE_COLON ∷ []
+
+-- words of later parts of the language, which are names like any other so far
+abbrev pub later_words : List (List ℕ)
+later_words = codes "TEMPORARY" ∷ codes "TEMP" ∷ codes "SCHEMA" ∷ codes "PUBLIC" ∷ []

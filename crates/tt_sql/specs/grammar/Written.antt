@@ -117,9 +117,14 @@ moment = one TIMESTAMP ▸ one ARROW ▸ quoted_moment ▸ (one DOUBLE_COLON ▸
 abbrev pub clause : Gram
 clause = (one AT ▸ way 1 ∣ one BEFORE ▸ way 2) ▸ brackets moment
 
--- what stands behind the items
+-- that no more parts follow, as at the end of a list
+abbrev pub no_more : Gram
+no_more = way 0
+
+-- What stands behind a query's table. Further tables will stand behind the clause; there are none yet.
 abbrev pub query_end : ℕ → Gram
 query_end levels = maybe clause
+    ▸ no_more
     ▸ maybe (one WHERE ▸ pred levels)
     ▸ maybe (one GROUP ▸ one BY ▸ listed name)
     ▸ maybe (one ORDER ▸ one BY ▸ listed key)

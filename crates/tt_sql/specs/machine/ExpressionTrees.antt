@@ -1,6 +1,7 @@
 -- The tree that marks spell. A reader takes the marks of one tree and gives the tree and the marks behind it.
 use Rattle.std.specs.Prelude.{ℕ, zero, suc, List, [], ◌∷◌, length, Option, Some, None, ℤ}
 use Rattle.tt_value.specs.declared.name.Literal.{Literal}
+use Rattle.tt_value.specs.declared.name.ColumnName.{ColumnName}
 use Rattle.tt_value.specs.declared.value.Value.TheVariants.{Null, Int, Date, Text}
 use Rattle.tt_value.specs.declared.expression.Sign.{Sign}
 use Rattle.tt_value.specs.declared.expression.Sign.TheVariants.{Plus, Minus}
@@ -10,7 +11,7 @@ use Rattle.tt_value.specs.declared.expression.Addend.{Addend, roll-Addend}
 use Rattle.tt_value.specs.declared.expression.Factor.{Factor}
 use Rattle.tt_value.specs.declared.expression.Factor.TheVariants as factor
 use Rattle.tt_value.specs.calendar.Reading.{day_of}
-use Rattle.tt_sql.specs.grammar.Grammar.{Mark, Way, At, Said, Meant}
+use Rattle.tt_sql.specs.grammar.Grammar.{Mark, Way, At, Said, Prefix, Meant}
 
 abbrev pub Reader : Type 0 → Type 0
 Reader A = List Mark → Option (A × List Mark)
@@ -35,6 +36,14 @@ marked_many r (suc k) m = None
 
 abbrev pub marked_all : {A : Type 0} → Reader A → Reader (List A)
 marked_all r m = marked_many r (length m) m
+
+-- ---- names
+
+-- a name alone, and one with another in front
+abbrev pub marked_column : Reader ColumnName
+marked_column (Said text place ∷ m) = Some (record { table = None; name = record { text = text; place = place } }, m)
+marked_column (Prefix front here ∷ Said text place ∷ m) = Some (record { table = Some (record { text = front; place = here }); name = record { text = text; place = place } }, m)
+marked_column m = None
 
 -- ---- literals
 
@@ -96,6 +105,7 @@ factor_by r (At place ∷ m) = at_factor r place m
 factor_by r (Meant n place ∷ m) = go_on (marked_literal (Meant n place ∷ m)) literal_factor
 factor_by r (Said text place ∷ Way (suc zero) ∷ m) = Some (factor.Column (record { table = None; name = record { text = text; place = place } }), m)
 factor_by r (Said text place ∷ m) = go_on (marked_literal (Said text place ∷ m)) literal_factor
+factor_by r (Prefix front here ∷ Said text place ∷ Way (suc zero) ∷ m) = Some (factor.Column (record { table = Some (record { text = front; place = here }); name = record { text = text; place = place } }), m)
 factor_by r m = None
 
 -- with at most so many levels

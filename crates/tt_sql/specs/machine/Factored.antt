@@ -4,7 +4,7 @@ use Rattle.std.specs.Prelude.{ℕ, zero, suc, Bool, not, ◌&&◌, ◌||◌, ◌
 use Rattle.tt_sql.specs.grammar.Grammar.{Lexeme, Mark, Way, At, Said, Rule, Gram, Tok, Deep, Note, Many, Again, Expr, Negated, Predicate, Unit, nowhere}
 use Rattle.tt_sql.specs.grammar.TokenKinds.{SELECT, FROM, WHERE, GROUP, BY, ORDER, LIMIT, AND, OR, NOT, IN, IS, NULL, BETWEEN, INSERT, INTO, VALUES, UPDATE, SET, DELETE, CLONE, COUNT, SUM, MIN, MAX, STARTSWITH, DATE, EXPLAIN, INFORMATION_SCHEMA, TABLE_STORAGE_METRICS, SYSTEM_CLUSTERING_DEPTH, NAME, SHORT_NUMBER, DATE_TEXT, OPEN, CLOSE, COMMA, DOT, STAR, MINUS, EQUAL, is_name, is_negative}
 use Rattle.tt_sql.specs.grammar.Combinators.{◌▸◌, ◌∣◌, way, as_place, as_text, as_negative, as_date, one, placed, name, number, quoted, quoted_name, maybe, brackets, listed}
-use Rattle.tt_sql.specs.grammar.Written.{literal, compare, sign, key, clause, create_front, column, options, begins_other, tuple, copy, drop_table, undrop, truncate, alter, begin, commit, rollback, wait, show}
+use Rattle.tt_sql.specs.grammar.Written.{literal, compare, sign, key, clause, no_more, create_front, column, options, begins_other, tuple, copy, drop_table, undrop, truncate, alter, begin, commit, rollback, wait, show}
 
 -- a name but these words
 abbrev pub but : (ℕ → Bool) → ℕ → Bool
@@ -109,6 +109,7 @@ read_item words levels = one COUNT ▸ (one OPEN ▸ Note word_place ▸ (one ST
 
 abbrev pub read_query_end : ℕ → Gram
 read_query_end levels = maybe clause
+    ▸ no_more
     ▸ maybe (one WHERE ▸ Again Predicate levels)
     ▸ maybe (one GROUP ▸ one BY ▸ listed name)
     ▸ maybe (one ORDER ▸ one BY ▸ listed key)

@@ -9,7 +9,7 @@ use Rattle.tt_value.specs.declared.predicate.Predicate.{Predicate, roll-Predicat
 use Rattle.tt_value.specs.declared.predicate.Conjunction.{Conjunction, roll-Conjunction}
 use Rattle.tt_value.specs.declared.predicate.Unit.{Unit as Test}
 use Rattle.tt_value.specs.declared.predicate.Unit.TheVariants as unit
-use Rattle.tt_sql.specs.grammar.Grammar.{Way, Said}
+use Rattle.tt_sql.specs.grammar.Grammar.{Way, Said, Prefix}
 use Rattle.tt_sql.specs.machine.ExpressionTrees.{Reader, go_on, marked_all, marked_literal}
 
 abbrev pub flag_of : ℕ → Bool
@@ -32,6 +32,7 @@ literal_operand l m = None
 
 abbrev pub marked_operand : Reader Operand
 marked_operand (Said text place ∷ Way zero ∷ m) = Some (operand.Column (record { table = None; name = record { text = text; place = place } }), m)
+marked_operand (Prefix front here ∷ Said text place ∷ Way zero ∷ m) = Some (operand.Column (record { table = Some (record { text = front; place = here }); name = record { text = text; place = place } }), m)
 marked_operand m = go_on (marked_literal m) literal_operand
 
 abbrev pub with_operand : Operand → ℕ → Operand → Reader Test
@@ -55,8 +56,9 @@ with_literal a c l m = go_on (marked_literal m) (with_greatest a c l)
 -- behind an operand and a way: that of the comparison, or whether NOT stands there
 abbrev pub with_way : Operand → ℕ → Reader Test
 with_way a c (Way (suc (suc (suc zero))) ∷ m) = Some (unit.IsNull a (flag_of c), m)
-with_way a c (Way (suc (suc (suc (suc zero)))) ∷ m) = Some (unit.In a (flag_of c) [], m)
+with_way a c (Way zero ∷ Way (suc (suc (suc (suc zero)))) ∷ m) = Some (unit.In a (flag_of c) [], m)
 with_way a c (Said text place ∷ Way zero ∷ m) = with_operand a c (operand.Column (record { table = None; name = record { text = text; place = place } })) m
+with_way a c (Prefix front here ∷ Said text place ∷ Way zero ∷ m) = with_operand a c (operand.Column (record { table = Some (record { text = front; place = here }); name = record { text = text; place = place } })) m
 with_way a c m = go_on (marked_literal m) (with_literal a c)
 
 abbrev pub behind_operand : Operand → Reader Test
@@ -66,6 +68,8 @@ behind_operand a m = None
 abbrev pub marked_simple : Reader Test
 marked_simple (Said column here ∷ Said front there ∷ Way (suc (suc (suc (suc (suc (suc zero)))))) ∷ m) =
     Some (unit.StartsWith (record { table = None; name = record { text = column; place = here } }) (record { text = front; place = there }), m)
+marked_simple (Prefix table at ∷ Said column here ∷ Said front there ∷ Way (suc (suc (suc (suc (suc (suc zero)))))) ∷ m) =
+    Some (unit.StartsWith (record { table = Some (record { text = table; place = at }); name = record { text = column; place = here } }) (record { text = front; place = there }), m)
 marked_simple m = go_on (marked_operand m) behind_operand
 
 -- ---- predicates, given a reader of the units within brackets

@@ -10,18 +10,21 @@ use Rattle.tt_value.specs.declared.predicate.Predicate.{Predicate}
 use Rattle.tt_sql.specs.declared.query.Clause.{Clause}
 use Rattle.tt_sql.specs.declared.query.Item.{Item}
 use Rattle.tt_sql.specs.declared.query.Item.TheVariants as item
+use Rattle.tt_sql.specs.declared.query.Join.{Join}
 use Rattle.tt_sql.specs.declared.query.Key.{Key}
 use Rattle.tt_sql.specs.declared.query.KeyColumn.{KeyColumn}
 use Rattle.tt_sql.specs.declared.query.KeyColumn.TheVariants as key
 use Rattle.tt_sql.specs.declared.query.Moment.{Moment}
 use Rattle.tt_sql.specs.declared.query.Moment.TheVariants as moment
+use Rattle.tt_sql.specs.declared.query.Pair.{Pair}
 use Rattle.tt_sql.specs.declared.query.Query.{Query}
 use Rattle.tt_sql.specs.declared.query.Selection.{Selection}
 use Rattle.tt_sql.specs.declared.query.Selection.TheVariants as selection
+use Rattle.tt_sql.specs.declared.query.Source.{Source}
 use Rattle.tt_sql.specs.declared.query.Side.{Side}
 use Rattle.tt_sql.specs.declared.query.Side.TheVariants as side
-use Rattle.tt_sql.specs.grammar.Grammar.{Way, At, Said, Meant}
-use Rattle.tt_sql.specs.machine.ExpressionTrees.{Reader, go_on, first_of, marked_all, marked_expr}
+use Rattle.tt_sql.specs.grammar.Grammar.{Way, At, Said, Prefix, Meant}
+use Rattle.tt_sql.specs.machine.ExpressionTrees.{Reader, go_on, first_of, marked_all, marked_column, marked_expr}
 use Rattle.tt_sql.specs.machine.PredicateTrees.{marked_predicate}
 
 -- ---- small parts
@@ -38,12 +41,10 @@ abbrev pub marked_quoted : Reader Quoted
 marked_quoted (Said text place ∷ m) = Some (record { text = text; place = place }, m)
 marked_quoted m = None
 
-abbrev pub marked_column : Reader ColumnName
-marked_column (Said text place ∷ m) = Some (record { table = None; name = record { text = text; place = place } }, m)
-marked_column m = None
-
+-- a name alone, and one with another in front
 abbrev pub marked_table : Reader TableName
 marked_table (Said text place ∷ m) = Some (record { schema = None; name = record { text = text; place = place } }, m)
+marked_table (Prefix front here ∷ Said text place ∷ m) = Some (record { schema = Some (record { text = front; place = here }); name = record { text = text; place = place } }, m)
 marked_table m = None
 
 abbrev pub marked_flag : Reader Bool
@@ -87,6 +88,10 @@ marked_aggregate (At place ∷ Said text here ∷ Way (suc (suc (suc (suc (suc z
 marked_aggregate (At place ∷ Said text here ∷ Way (suc (suc (suc (suc (suc (suc zero)))))) ∷ m) = Some (item.Sum place (record { table = None; name = record { text = text; place = here } }), m)
 marked_aggregate (At place ∷ Said text here ∷ Way (suc (suc (suc (suc (suc (suc (suc zero))))))) ∷ m) = Some (item.Min place (record { table = None; name = record { text = text; place = here } }), m)
 marked_aggregate (At place ∷ Said text here ∷ Way (suc (suc (suc (suc (suc (suc (suc (suc zero)))))))) ∷ m) = Some (item.Max place (record { table = None; name = record { text = text; place = here } }), m)
+marked_aggregate (At place ∷ Prefix front there ∷ Said text here ∷ Way (suc (suc (suc (suc (suc zero))))) ∷ m) = Some (item.Count place (record { table = Some (record { text = front; place = there }); name = record { text = text; place = here } }), m)
+marked_aggregate (At place ∷ Prefix front there ∷ Said text here ∷ Way (suc (suc (suc (suc (suc (suc zero)))))) ∷ m) = Some (item.Sum place (record { table = Some (record { text = front; place = there }); name = record { text = text; place = here } }), m)
+marked_aggregate (At place ∷ Prefix front there ∷ Said text here ∷ Way (suc (suc (suc (suc (suc (suc (suc zero))))))) ∷ m) = Some (item.Min place (record { table = Some (record { text = front; place = there }); name = record { text = text; place = here } }), m)
+marked_aggregate (At place ∷ Prefix front there ∷ Said text here ∷ Way (suc (suc (suc (suc (suc (suc (suc (suc zero)))))))) ∷ m) = Some (item.Max place (record { table = Some (record { text = front; place = there }); name = record { text = text; place = here } }), m)
 marked_aggregate m = None
 
 abbrev pub marked_item : Reader Item
@@ -125,24 +130,55 @@ key_by by m = go_on (marked_flag m) (λ descending later. Some (record { by = by
 
 abbrev pub marked_key : Reader Key
 marked_key (Said text place ∷ Way zero ∷ m) = key_by (key.Column (record { table = None; name = record { text = text; place = place } })) m
+marked_key (Prefix front here ∷ Said text place ∷ Way zero ∷ m) = key_by (key.Column (record { table = Some (record { text = front; place = here }); name = record { text = text; place = place } })) m
 marked_key (Meant (pos n) place ∷ Way (suc zero) ∷ m) = key_by (key.Position (record { value = n; place = place })) m
 marked_key m = None
 
-abbrev pub made : ℕ → Selection → TableName → Option Clause → Option Predicate → List ColumnName → List Key → Option Number → Reader Query
-made place selection table clause filter group order limit m =
-    Some (record { place = place; selection = selection; first = record { table = table; clause = clause }; joins = []; filter = filter; group = group; order = order; limit = limit }, m)
+abbrev pub made_source : TableName → Option Clause → Reader Source
+made_source table clause m = Some (record { table = table; clause = clause }, m)
 
-abbrev pub behind_order : ℕ → Selection → TableName → Option Clause → Option Predicate → List ColumnName → List Key → Reader Query
-behind_order place selection table clause filter group order m = go_on (marked_maybe marked_number m) (made place selection table clause filter group order)
+abbrev pub source_behind : TableName → Reader Source
+source_behind table m = go_on (marked_maybe marked_clause m) (made_source table)
 
-abbrev pub behind_group : ℕ → Selection → TableName → Option Clause → Option Predicate → List ColumnName → Reader Query
-behind_group place selection table clause filter group m = go_on (marked_maybe_listed marked_key m) (behind_order place selection table clause filter group)
+abbrev pub marked_source : Reader Source
+marked_source m = go_on (marked_table m) source_behind
 
-abbrev pub behind_filter : ℕ → Selection → TableName → Option Clause → Option Predicate → Reader Query
-behind_filter place selection table clause filter m = go_on (marked_maybe_listed marked_column m) (behind_group place selection table clause filter)
+abbrev pub made_pair : ColumnName → ColumnName → Reader Pair
+made_pair left right m = Some (record { left = left; right = right }, m)
+
+abbrev pub pair_behind : ColumnName → Reader Pair
+pair_behind left m = go_on (marked_column m) (made_pair left)
+
+abbrev pub marked_pair : Reader Pair
+marked_pair m = go_on (marked_column m) pair_behind
+
+abbrev pub made_join : Source → List Pair → Reader Join
+made_join source pairs m = Some (record { source = source; pairs = pairs }, m)
+
+abbrev pub join_behind : Source → Reader Join
+join_behind source m = go_on (marked_listed marked_pair m) (made_join source)
+
+abbrev pub marked_join : Reader Join
+marked_join m = go_on (marked_source m) join_behind
+
+abbrev pub made : ℕ → Selection → Source → List Join → Option Predicate → List ColumnName → List Key → Option Number → Reader Query
+made place selection source joins filter group order limit m =
+    Some (record { place = place; selection = selection; first = source; joins = joins; filter = filter; group = group; order = order; limit = limit }, m)
+
+abbrev pub behind_order : ℕ → Selection → Source → List Join → Option Predicate → List ColumnName → List Key → Reader Query
+behind_order place selection source joins filter group order m = go_on (marked_maybe marked_number m) (made place selection source joins filter group order)
+
+abbrev pub behind_group : ℕ → Selection → Source → List Join → Option Predicate → List ColumnName → Reader Query
+behind_group place selection source joins filter group m = go_on (marked_maybe_listed marked_key m) (behind_order place selection source joins filter group)
+
+abbrev pub behind_filter : ℕ → Selection → Source → List Join → Option Predicate → Reader Query
+behind_filter place selection source joins filter m = go_on (marked_maybe_listed marked_column m) (behind_group place selection source joins filter)
+
+abbrev pub behind_joins : ℕ → Selection → Source → List Join → Reader Query
+behind_joins place selection source joins m = go_on (marked_maybe marked_test m) (behind_filter place selection source joins)
 
 abbrev pub behind_clause : ℕ → Selection → TableName → Option Clause → Reader Query
-behind_clause place selection table clause m = go_on (marked_maybe marked_test m) (behind_filter place selection table clause)
+behind_clause place selection table clause m = go_on (marked_all marked_join m) (behind_joins place selection (record { table = table; clause = clause }))
 
 abbrev pub behind_table : ℕ → Selection → TableName → Reader Query
 behind_table place selection table m = go_on (marked_maybe marked_clause m) (behind_clause place selection table)

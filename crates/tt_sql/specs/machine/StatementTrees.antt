@@ -33,7 +33,7 @@ use Rattle.tt_sql.specs.declared.statement.Statement.TheVariants as statement
 use Rattle.tt_sql.specs.declared.statement.TimeUnit.{TimeUnit}
 use Rattle.tt_sql.specs.declared.statement.TimeUnit.TheVariants as unit
 use Rattle.tt_sql.specs.declared.statement.Wait.{Wait}
-use Rattle.tt_sql.specs.grammar.Grammar.{Mark, Way, At, Said, Meant}
+use Rattle.tt_sql.specs.grammar.Grammar.{Mark, Way, At, Said, Prefix, Meant}
 use Rattle.tt_sql.specs.machine.ExpressionTrees.{Reader, go_on, marked_literal}
 use Rattle.tt_sql.specs.machine.QueryTrees.{marked_name, marked_number, marked_quoted, marked_table, marked_flag, marked_listed, marked_maybe, marked_sum, marked_test, marked_clause, marked_query}
 
@@ -155,6 +155,7 @@ pub record Front : Type 0 where
 
 abbrev pub marked_front : Reader Front
 marked_front (Way replaces ∷ Way kind ∷ Said text place ∷ m) = Some (record { replaces = flag_of replaces; kind = table_kind_of kind; table = record { schema = None; name = record { text = text; place = place } } }, m)
+marked_front (Way replaces ∷ Way kind ∷ Prefix front here ∷ Said text place ∷ m) = Some (record { replaces = flag_of replaces; kind = table_kind_of kind; table = record { schema = Some (record { text = front; place = here }); name = record { text = text; place = place } } }, m)
 marked_front m = None
 
 abbrev pub kind_of : ℕ → Kind
@@ -196,6 +197,8 @@ marked_clone m = go_on (marked_front m) clone_front
 abbrev pub marked_change : Reader Change
 marked_change (Said text place ∷ Way zero ∷ m) = Some (change.RenameTo (record { schema = None; name = record { text = text; place = place } }), m)
 marked_change (Said text place ∷ Way (suc zero) ∷ m) = Some (change.SwapWith (record { schema = None; name = record { text = text; place = place } }), m)
+marked_change (Prefix front here ∷ Said text place ∷ Way zero ∷ m) = Some (change.RenameTo (record { schema = Some (record { text = front; place = here }); name = record { text = text; place = place } }), m)
+marked_change (Prefix front here ∷ Said text place ∷ Way (suc zero) ∷ m) = Some (change.SwapWith (record { schema = Some (record { text = front; place = here }); name = record { text = text; place = place } }), m)
 marked_change (Meant (pos n) place ∷ Way (suc (suc zero)) ∷ m) = Some (change.SetRetention (record { value = n; place = place }), m)
 marked_change (Said text place ∷ Way (suc (suc (suc zero))) ∷ m) = Some (change.ClusterBy (record { text = text; place = place }), m)
 marked_change (Way (suc (suc (suc (suc zero)))) ∷ m) = Some (change.DropClusteringKey, m)

@@ -26,7 +26,7 @@ use Rattle.tt_value.specs.declared.predicate.Unit.{Unit as Test}
 use Rattle.tt_value.specs.declared.predicate.Unit.TheFolds.{fold-Predicate, fold-Conjunction, fold-Unit}
 use Rattle.tt_value.specs.declared.predicate.Unit.TheOpen.{Predicate-F, Conjunction-F, Unit-F}
 use Rattle.tt_value.specs.calendar.Calendar.{day_text}
-use Rattle.tt_sql.specs.grammar.Grammar.{Mark, Way, At, Said, Meant}
+use Rattle.tt_sql.specs.grammar.Grammar.{Mark, Way, At, Said, Prefix, Meant}
 
 -- ---- lists
 
@@ -35,9 +35,9 @@ abbrev pub repeated : List (List Mark) → List Mark
 repeated [] = Way 0 ∷ []
 repeated (m ∷ ms) = Way 1 ∷ (m ++ repeated ms)
 
--- one, and then more with commas between them
+-- one, and then more with commas between them, or that there is none
 abbrev pub listed_marks : List (List Mark) → List Mark
-listed_marks [] = []
+listed_marks [] = Way 0 ∷ []
 listed_marks (m ∷ ms) = m ++ repeated ms
 
 -- what may be left out
@@ -63,7 +63,7 @@ quoted_marks q = Said q.text q.place ∷ []
 -- a name that may have another one in front
 abbrev pub qualified : Option Name → Name → List Mark
 qualified None n = name_marks n
-qualified (Some front) n = name_marks front ++ name_marks n
+qualified (Some front) n = Prefix front.text front.place ∷ name_marks n
 
 abbrev pub column_marks : ColumnName → List Mark
 column_marks c = qualified c.table c.name

@@ -18,7 +18,7 @@ use Rattle.tt_sql.specs.declared.query.Side.{Side}
 use Rattle.tt_sql.specs.declared.query.Side.TheVariants as side
 use Rattle.tt_sql.specs.declared.query.Source.{Source}
 use Rattle.tt_sql.specs.grammar.Grammar.{Mark, Way, At, Meant}
-use Rattle.tt_sql.specs.marks.Expressions.{listed_marks, maybe_marks, flag_marks, number_marks, quoted_marks, column_marks, table_marks, expr_marks, predicate_marks}
+use Rattle.tt_sql.specs.marks.Expressions.{repeated, listed_marks, maybe_marks, flag_marks, number_marks, quoted_marks, column_marks, table_marks, expr_marks, predicate_marks}
 
 -- ---- items
 
@@ -55,16 +55,16 @@ clause_marks c = side_marks c.side ++ moment_marks c.moment
 abbrev pub source_marks : Source → List Mark
 source_marks s = table_marks s.table ++ maybe_marks clause_marks s.clause
 
--- The grammar has no further tables yet: no derivation notes such marks.
+-- The grammar has no further tables yet: each derivation notes that there are none.
 abbrev pub pair_marks : Pair → List Mark
 pair_marks p = column_marks p.left ++ column_marks p.right
 
 abbrev pub join_marks : Join → List Mark
-join_marks j = Way 2 ∷ (source_marks j.source ++ listed_marks (map pair_marks j.pairs))
+join_marks j = source_marks j.source ++ listed_marks (map pair_marks j.pairs)
 
+-- further tables, and that there are no more
 abbrev pub joins_marks : List Join → List Mark
-joins_marks [] = []
-joins_marks (j ∷ joins) = join_marks j ++ joins_marks joins
+joins_marks joins = repeated (map join_marks joins)
 
 -- ---- queries
 
@@ -84,8 +84,8 @@ abbrev pub query_marks : Query → List Mark
 query_marks q =
     At q.place ∷ (selection_marks q.selection
     ++ (table_marks q.first.table
-    ++ (joins_marks q.joins
     ++ (maybe_marks clause_marks q.first.clause
+    ++ (joins_marks q.joins
     ++ (maybe_marks predicate_marks q.filter
     ++ (maybe_listed (map column_marks q.group)
     ++ (maybe_listed (map key_marks q.order)

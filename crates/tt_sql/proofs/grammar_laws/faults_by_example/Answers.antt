@@ -64,3 +64,15 @@ returns-clause-levels_left c = statement_err 256 533 _ 533 (spaced_known 0 (deep
 pub returns-clause-levels_passed : goal.returns-clause-levels_passed
 unfolding run step close close_part enter read_other read_unit word_kind number_kind text_kind sign_kind undoubled day_of timestamp_of
 returns-clause-levels_passed c = statement_err 256 535 _ 534 (spaced_known 0 (deep 257)) refl
+
+pub returns-clause-no_temporary_table : goal.returns-clause-no_temporary_table
+unfolding run step close close_part enter read_other read_unit word_kind number_kind text_kind sign_kind undoubled day_of timestamp_of
+returns-clause-no_temporary_table c = statement_err 256 34 _ 7 (spaced_known 0 (tokens (codes "CREATE TEMPORARY TABLE t ( x INT )"))) refl
+
+pub returns-clause-no_table_in_front : goal.returns-clause-no_table_in_front
+unfolding run step close close_part enter read_other read_unit word_kind number_kind text_kind sign_kind undoubled day_of timestamp_of
+returns-clause-no_table_in_front c = statement_err 256 19 _ 9 (spaced_known 0 (tokens (codes "SELECT t . x FROM t"))) refl
+
+pub returns-clause-no_schema_in_front : goal.returns-clause-no_schema_in_front
+unfolding run step close close_part enter read_other read_unit word_kind number_kind text_kind sign_kind undoubled day_of timestamp_of
+returns-clause-no_schema_in_front c = statement_err 256 16 _ 13 (spaced_known 0 (tokens (codes "DROP TABLE s . t"))) refl

@@ -42,3 +42,7 @@ returns-clause-not_and c = statement_ok 256 0 _ _ refl
 pub returns-clause-either : goal.returns-clause-either
 unfolding run step close close_part enter read_other read_unit word_kind number_kind text_kind sign_kind undoubled day_of timestamp_of
 returns-clause-either c = statement_ok 256 0 _ _ refl
+
+pub returns-clause-temporary_is_a_name : goal.returns-clause-temporary_is_a_name
+unfolding run step close close_part enter read_other read_unit word_kind number_kind text_kind sign_kind undoubled day_of timestamp_of
+returns-clause-temporary_is_a_name c = statement_ok 256 0 _ _ refl
