@@ -16,10 +16,9 @@ use Rattle.tt_value.specs.declared.predicate.Conjunction.{Conjunction, roll-Conj
 use Rattle.tt_value.specs.declared.predicate.Unit.{Unit as Test}
 use Rattle.tt_value.specs.declared.predicate.Unit.TheVariants as unit
 use Rattle.tt_value.specs.values.RowText.{IsPrintableValue}
-use Rattle.tt_sql.specs.determined.Expressions.{AreGiven, IsGivenAddend, IsGivenConjunction, IsGivenExpr, IsGivenFactor, IsGivenPredicate, IsGivenTerm, IsGivenUnit, addend_leaves, conjunction_leaves, factor_leaves, operand_leaves, literals_leaves, unit_leaves, term_leaves}
+use Rattle.tt_sql.specs.determined.Expressions.{AreGiven, IsGivenAddend, IsGivenConjunction, IsGivenExpr, IsGivenFactor, IsGivenPredicate, IsGivenTerm, IsGivenUnit, addend_leaves, conjunction_leaves, factor_leaves, operand_leaves, unit_leaves, term_leaves}
 use Rattle.tt_sql.specs.trees.Lists.{Each, IsListed}
 use Rattle.tt_sql.proofs.determined.Expressions.{both_given, each_given, literals_given, leaves-Literal, leaves-Column, leaves-Bracket, leaves-Negated, leaves-Addend, leaves-Term, leaves-Expr, leaves-Not, leaves-Group, leaves-Compare, leaves-IsNull, leaves-In, leaves-Between, leaves-StartsWith, leaves-Conjunction, leaves-Predicate}
-use Rattle.tt_sql.specs.determined.Queries.{IsAlone}
 
 -- ---- lists that are pushed on
 
@@ -35,8 +34,8 @@ each_push P xs ys x e each is = subst (Each P) (sym e) (each_behind P xs x each 
 pub given_literal : (l : Literal) → IsPrintableValue l.value → IsGivenFactor (factor.Literal l)
 given_literal l is = rw (leaves-Literal l) (is, tt)
 
-pub given_column : (c : ColumnName) → IsAlone c → IsGivenFactor (factor.Column c)
-given_column c is = rw (leaves-Column c) (is, tt)
+pub given_column : (c : ColumnName) → IsGivenFactor (factor.Column c)
+given_column c = rw (leaves-Column c) tt
 
 pub given_bracket : (place : ℕ) (e : Expr) → IsGivenExpr e → IsGivenFactor (factor.Bracket place e)
 given_bracket place e is = rw (leaves-Bracket place e) is
@@ -68,13 +67,13 @@ pub given_is_null : (a : Operand) (negated : Bool) → AreGiven (operand_leaves 
 given_is_null a negated is = rw (leaves-IsNull a negated) is
 
 pub given_in : (a : Operand) (negated : Bool) (literals : List Literal) → AreGiven (operand_leaves a) → IsListed (λ l. IsPrintableValue l.value) literals → IsGivenUnit (unit.In a negated literals)
-given_in a negated literals is are = rw (leaves-In a negated literals) (both_given (operand_leaves a) (literals_leaves literals) is (literals_given literals are))
+given_in a negated literals is are = rw (leaves-In a negated literals) (both_given (operand_leaves a) literals is (literals_given literals are))
 
 pub given_between : (a : Operand) (negated : Bool) (least greatest : Literal) → AreGiven (operand_leaves a) → IsPrintableValue least.value → IsPrintableValue greatest.value → IsGivenUnit (unit.Between a negated least greatest)
 given_between a negated least greatest is low high = rw (leaves-Between a negated least greatest) (both_given (operand_leaves a) _ is (low, (high, tt)))
 
-pub given_starts_with : (c : ColumnName) (front : Quoted) → IsAlone c → IsGivenUnit (unit.StartsWith c front)
-given_starts_with c front is = rw (leaves-StartsWith c front) (is, tt)
+pub given_starts_with : (c : ColumnName) (front : Quoted) → IsGivenUnit (unit.StartsWith c front)
+given_starts_with c front = rw (leaves-StartsWith c front) tt
 
 pub given_conjunction : (u : Test) (others : List Test) → IsGivenUnit u → Each IsGivenUnit others → IsGivenConjunction (roll-Conjunction (record { first = u; others = others }))
 given_conjunction u others is each = rw (leaves-Conjunction u others) (both_given (unit_leaves u) _ is (each_given unit_leaves others each))

@@ -3,8 +3,8 @@
 ghost use Rattle.std.specs.Prelude.{◌≡◌, ℕ, ◌∷◌, IfOk};
 ghost use Rattle.tt_sql.specs.grammar.Grammar.{At, nowhere};
 ghost use Rattle.tt_sql.specs.machine.Factored.{read_item};
-ghost use Rattle.tt_sql.specs.determined.Queries.{IsAlone, IsGivenItem, IsGivenSelection};
-ghost use Rattle.tt_sql.specs.trees.Lists.{IsListed, WhenThere};
+ghost use Rattle.tt_sql.specs.determined.Queries.{IsGivenItem, IsGivenSelection};
+ghost use Rattle.tt_sql.specs.trees.Lists.{IsListed};
 ghost use Rattle.tt_sql.specs.marks.Queries.{item_marks, selection_marks};
 ghost use Rattle.tt_sql.specs.grammar.Combinators.{listed};
 ghost use Rattle.tt_terminal.specs.declared.rest.Rest.{Rest};
@@ -36,8 +36,7 @@ fn bracket_behind(kind: LexemeKind, rest: Rest<'_>) -> Option<(u32, Rest<'_>)>
 /// What COUNT counts: the values of a column, or the rows. The bracket is closed.
 fn counted<'a>(alloc: Global, rest: Rest<'a>) -> Result<(Option<ColumnName>, Rest<'a>), ParseError>
     requires { IsKnown rest }
-    ensures reads { ReadsPart counted_marks counted_part rest.entry result }
-    ensures given { IfOk result (λ x. WhenThere IsAlone x.0) }
+    ensures { ReadsPart counted_marks counted_part rest.entry result }
 {
     if let Some(rest) = rest.word(LexemeKind::Star) {
         let rest = after(LexemeKind::Close, rest)?;
@@ -51,8 +50,7 @@ fn counted<'a>(alloc: Global, rest: Rest<'a>) -> Result<(Option<ColumnName>, Res
 /// The column of an aggregate. The bracket is closed.
 fn closed_column<'a>(alloc: Global, rest: Rest<'a>) -> Result<(ColumnName, Rest<'a>), ParseError>
     requires { IsKnown rest }
-    ensures reads { (n : ℕ) → ReadsPart (closed_marks n) (closed_name n) rest.entry result }
-    ensures given { IfOk result (λ x. IsAlone x.0) }
+    ensures { (n : ℕ) → ReadsPart (closed_marks n) (closed_name n) rest.entry result }
 {
     let (column, rest) = column_of(alloc, rest)?;
     let rest = after(LexemeKind::Close, rest)?;
@@ -62,7 +60,7 @@ fn closed_column<'a>(alloc: Global, rest: Rest<'a>) -> Result<(ColumnName, Rest<
 /// COUNT of a column, or of the rows.
 fn count_item(place: u32, column: Option<ColumnName>) -> Item
     ensures marks { item_marks result ≡ At place ∷ counted_marks column }
-    ensures given { WhenThere IsAlone column → IsGivenItem result }
+    ensures given { IsGivenItem result }
 {
     match column {
         Some(column) => Item::Count(place, column),

@@ -4,13 +4,13 @@ ghost use Rattle.std.specs.Prelude.{◌≡◌, ◌≤◌, [], ◌∷◌, ◌++�
 ghost use Rattle.tt_sql.specs.grammar.Grammar.{At};
 ghost use Rattle.tt_sql.specs.machine.Factored.{read_query, read_query_end};
 ghost use Rattle.tt_sql.specs.marks.Expressions.{flag_marks, column_marks, number_marks, table_marks};
-ghost use Rattle.tt_sql.specs.trees.Lists.{Each, WhenThere};
+ghost use Rattle.tt_sql.specs.trees.Lists.{WhenThere};
 ghost use Rattle.tt_sql.specs.determined.Expressions.{IsGivenPredicate};
-ghost use Rattle.tt_sql.specs.determined.Queries.{IsAlone, IsAloneTable, IsGivenKey, IsGivenKeyColumn, IsGivenQuery, IsGivenSelection};
+ghost use Rattle.tt_sql.specs.determined.Queries.{IsGivenQuery, IsGivenSelection};
 ghost use Rattle.tt_sql.specs.marks.Queries.{key_marks, key_column_marks, query_marks, selection_marks};
 ghost use Rattle.tt_sql.specs.grammar.Combinators.{listed, name as name_part};
 ghost use Rattle.tt_sql.specs.grammar.Written.{key};
-ghost use Rattle.tt_phrase.specs.QueryEnds.{IsGivenQueryEnd, IsGivenQueryTail, ends, ends_marks, query_end_marks, query_tail, query_tail_marks, group_by, order_by, key_column, direction, limit};
+ghost use Rattle.tt_phrase.specs.QueryEnds.{IsGivenQueryEnd, ends, ends_marks, query_end_marks, query_tail, query_tail_marks, group_by, order_by, key_column, direction, limit};
 ghost use Rattle.tt_terminal.specs.Reading.{IsKnown, Passes, Reads};
 ghost use Rattle.tt_terminal.specs.Readers.{ReadsPart, ReadsList, ReadsMaybeList, ReadsMaybe};
 
@@ -48,8 +48,7 @@ pub struct QueryEnd {
 /// What a key of ORDER BY orders by.
 fn key_column_of<'a>(alloc: Global, rest: Rest<'a>) -> Result<(KeyColumn, Rest<'a>), ParseError>
     requires { IsKnown rest }
-    ensures reads { ReadsPart key_column_marks key_column rest.entry result }
-    ensures given { IfOk result (λ x. IsGivenKeyColumn x.0) }
+    ensures { ReadsPart key_column_marks key_column rest.entry result }
 {
     if let Some((name, rest)) = optional_name(alloc, rest)? {
         let table = None;
@@ -76,8 +75,7 @@ fn descending_of(rest: Rest<'_>) -> (bool, Rest<'_>)
 /// A key of ORDER BY.
 fn key_of<'a>(alloc: Global, rest: Rest<'a>) -> Result<(Key, Rest<'a>), ParseError>
     requires { IsKnown rest }
-    ensures reads { ReadsPart key_marks key rest.entry result }
-    ensures given { IfOk result (λ x. IsGivenKey x.0) }
+    ensures { ReadsPart key_marks key rest.entry result }
 {
     let (by, rest) = key_column_of(alloc, rest)?;
     let (descending, rest) = descending_of(rest);
@@ -89,7 +87,6 @@ fn keys_of<'a>(alloc: Global, rest: Rest<'a>) -> Result<(Items<Key>, Rest<'a>), 
     requires { IsKnown rest }
     ensures reads { ReadsList key_marks (listed key) rest.entry result }
     ensures filled { IfOk result (λ x. 1 ≤ length x.0) }
-    ensures given { IfOk result (λ x. Each IsGivenKey x.0) }
 {
     let mut keys = Items::new(alloc);
     let mut left = rest;
@@ -111,7 +108,6 @@ fn columns_of<'a>(
     requires { IsKnown rest }
     ensures reads { ReadsList column_marks (listed name_part) rest.entry result }
     ensures filled { IfOk result (λ x. 1 ≤ length x.0) }
-    ensures given { IfOk result (λ x. Each IsAlone x.0) }
 {
     let mut columns = Items::new(alloc);
     let mut left = rest;
@@ -128,8 +124,7 @@ fn columns_of<'a>(
 /// GROUP BY, if it stands here.
 fn group_of<'a>(alloc: Global, rest: Rest<'a>) -> Result<(Items<ColumnName>, Rest<'a>), ParseError>
     requires { IsKnown rest }
-    ensures reads { ReadsMaybeList column_marks group_by rest.entry result }
-    ensures given { IfOk result (λ x. Each IsAlone x.0) }
+    ensures { ReadsMaybeList column_marks group_by rest.entry result }
 {
     let Some(rest) = rest.word(LexemeKind::Group) else {
         return Ok((Items::new(alloc), rest));
@@ -142,8 +137,7 @@ fn group_of<'a>(alloc: Global, rest: Rest<'a>) -> Result<(Items<ColumnName>, Res
 /// ORDER BY, if it stands here.
 fn order_of<'a>(alloc: Global, rest: Rest<'a>) -> Result<(Items<Key>, Rest<'a>), ParseError>
     requires { IsKnown rest }
-    ensures reads { ReadsMaybeList key_marks order_by rest.entry result }
-    ensures given { IfOk result (λ x. Each IsGivenKey x.0) }
+    ensures { ReadsMaybeList key_marks order_by rest.entry result }
 {
     let Some(rest) = rest.word(LexemeKind::Order) else {
         return Ok((Items::new(alloc), rest));
@@ -168,8 +162,7 @@ fn limit_of(rest: Rest<'_>) -> Result<(Option<Number>, Rest<'_>), ParseError>
 /// What stands behind the filter of a query.
 fn tail_of<'a>(alloc: Global, rest: Rest<'a>) -> Result<(QueryTail, Rest<'a>), ParseError>
     requires { IsKnown rest }
-    ensures reads { ReadsPart query_tail_marks query_tail rest.entry result }
-    ensures given { IfOk result (λ x. IsGivenQueryTail x.0) }
+    ensures { ReadsPart query_tail_marks query_tail rest.entry result }
 {
     let (group, rest) = group_of(alloc, rest)?;
     let (order, rest) = order_of(alloc, rest)?;
@@ -191,7 +184,6 @@ fn filtered_of<'a>(
     requires { IsKnown rest }
     ensures reads { Reads (λ x. ends_marks x.0 x.1) (λ x. x.2) (ends levels) rest.entry result }
     ensures filter { IfOk result (λ x. WhenThere IsGivenPredicate x.0) }
-    ensures tail { IfOk result (λ x. IsGivenQueryTail x.1) }
 {
     let (filter, rest) = filter_of(alloc, levels, rest)?;
     paired(filter, tail_of(alloc, rest))
@@ -227,8 +219,7 @@ fn query_with(
 ) -> Query
     ensures marks { query_marks result
         ≡ At place ∷ (selection_marks selection ++ (table_marks table ++ query_end_marks end)) }
-    ensures given { IsGivenSelection selection → IsAloneTable table → IsGivenQueryEnd end
-        → IsGivenQuery result }
+    ensures given { IsGivenSelection selection → IsGivenQueryEnd end → IsGivenQuery result }
 {
     let clause = end.clause;
     Query {

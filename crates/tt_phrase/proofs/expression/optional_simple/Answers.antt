@@ -1,4 +1,4 @@
-use Rattle.std.proofs.Common.{◌≡◌, ◌∙◌, false, List, [], ◌∷◌, ◌++◌, ap, refl}
+use Rattle.std.proofs.Common.{◌≡◌, ◌∙◌, false, List, [], ◌∷◌, ◌++◌, ap}
 use Rattle.tt_sql.specs.grammar.Grammar.{Way, Mark, is_of}
 use Rattle.tt_sql.specs.grammar.TokenKinds.{OTHER_TEXT, is_quoted}
 use Rattle.tt_sql.proofs.marks.Expressions.{marks-Literal, marks-Column}
@@ -37,4 +37,4 @@ pub returns-in-Some-optional_date-clause-given : goal.returns-in-Some-optional_d
 returns-in-Some-optional_date-clause-given c = given_literal _ c.in-Some-optional_date.ensures.given
 
 pub returns-in-Some-3-clause-given : goal.returns-in-Some-3-clause-given
-returns-in-Some-3-clause-given c = given_column _ refl
+returns-in-Some-3-clause-given c = given_column _

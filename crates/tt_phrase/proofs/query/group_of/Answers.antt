@@ -5,14 +5,14 @@ use Rattle.tt_sql.specs.marks.Expressions.{column_marks}
 use Rattle.tt_phrase.proofs.Lists.{filled_marks}
 use Rattle.tt_phrase.proofs.query.group_of.Goals as goal
 
-pub returns-in_default-clause-reads : goal.returns-in_default-clause-reads
-returns-in_default-clause-reads c = rw c.new.ensures (passes_right (rw c.in_default.ensures refl) refl (passes_way c.requires))
+pub returns-in_default : goal.returns-in_default
+returns-in_default c = rw c.new.ensures (passes_right (rw c.in_default.ensures refl) refl (passes_way c.requires))
 
-pub returns-in_err-rest-clause-reads : goal.returns-in_err-rest-clause-reads
-returns-in_err-rest-clause-reads c = exits _ _ _ _ _ _ c.from_residual.result c.from_residual.ensures.1 (within (λ at f. stops_left (word_kind_is c.in-Some.ensures) refl refl (stops_first (stops_word c.in-Some.ensures (stops_first f)))) _ c.in_err-rest.ensures)
+pub returns-in_err-rest : goal.returns-in_err-rest
+returns-in_err-rest c = exits _ _ _ _ _ _ c.from_residual.result c.from_residual.ensures.1 (within (λ at f. stops_left (word_kind_is c.in-Some.ensures) refl refl (stops_first (stops_word c.in-Some.ensures (stops_first f)))) _ c.in_err-rest.ensures)
 
-pub returns-in_err-columns-clause-reads : goal.returns-in_err-columns-clause-reads
-returns-in_err-columns-clause-reads c = exits _ _ _ _ _ _ c.from_residual-in_err-columns.result c.from_residual-in_err-columns.ensures.1 (within (λ at f. stops_left (word_kind_is c.in-Some.ensures) refl refl (stops_first (stops_word c.in-Some.ensures (stops_second c.in_ok-rest.ensures f)))) _ c.in_err-columns.ensures.reads)
+pub returns-in_err-columns : goal.returns-in_err-columns
+returns-in_err-columns c = exits _ _ _ _ _ _ c.from_residual-in_err-columns.result c.from_residual-in_err-columns.ensures.1 (within (λ at f. stops_left (word_kind_is c.in-Some.ensures) refl refl (stops_first (stops_word c.in-Some.ensures (stops_second c.in_ok-rest.ensures f)))) _ c.in_err-columns.ensures.reads)
 
-pub returns-clause-reads : goal.returns-clause-reads
-returns-clause-reads c = rw (filled_marks column_marks c.in_ok-columns.columns c.in_ok-columns.ensures.filled) (passes_left (word_kind_is c.in-Some.ensures) refl refl (passes_as (passes_word c.in-Some.ensures (passes_both c.in_ok-rest.ensures c.in_ok-columns.ensures.reads))))
+pub returns : goal.returns
+returns c = rw (filled_marks column_marks c.in_ok-columns.columns c.in_ok-columns.ensures.filled) (passes_left (word_kind_is c.in-Some.ensures) refl refl (passes_as (passes_word c.in-Some.ensures (passes_both c.in_ok-rest.ensures c.in_ok-columns.ensures.reads))))

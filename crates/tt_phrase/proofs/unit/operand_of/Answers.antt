@@ -1,4 +1,4 @@
-use Rattle.std.proofs.Common.{◌≡◌, false, refl}
+use Rattle.std.proofs.Common.{◌≡◌, false}
 use Rattle.tt_sql.specs.grammar.Grammar.{is_of}
 use Rattle.tt_sql.specs.grammar.TokenKinds.{NAME, is_name}
 use Rattle.tt_terminal.specs.Reading.{IsName, first_kind}
@@ -29,7 +29,7 @@ pub returns-in-Some-clause-given : goal.returns-in-Some-clause-given
 returns-in-Some-clause-given c = (c.in-Some.ensures.given, tt)
 
 pub returns-in-Some-2-clause-given : goal.returns-in-Some-2-clause-given
-returns-in-Some-2-clause-given c = (refl, tt)
+returns-in-Some-2-clause-given c = tt
 
 pub returns-clause-given : goal.returns-clause-given
 returns-clause-given c = (c.in_ok-literal.ensures.given, tt)

@@ -20,4 +20,4 @@ pub returns-clause-reads : goal.returns-clause-reads
 returns-clause-reads c = marks_are (marks-StartsWith _ _) (passes_both c.in_ok-column.ensures.reads (passes_both c.in_ok-rest.ensures (passes_both c.in_ok-front.ensures (passes_as c.in_ok-rest-2.ensures))))
 
 pub returns-clause-given : goal.returns-clause-given
-returns-clause-given c = given_starts_with _ _ c.in_ok-column.ensures.given
+returns-clause-given c = given_starts_with _ _
