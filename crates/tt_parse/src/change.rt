@@ -96,8 +96,7 @@ fn tuples_of<'a>(alloc: Global, rest: Rest<'a>) -> Result<(Items<Tuple>, Rest<'a
 /// COPY INTO.
 pub fn copy_of<'a>(alloc: Global, rest: Rest<'a>) -> Result<(Copy, Rest<'a>), ParseError>
     requires { IsKnown rest }
-    ensures reads { ReadsPart copy_marks copy rest.entry result }
-    ensures given { IfOk result (λ x. IsGivenDml (dml.Copy x.0)) }
+    ensures { ReadsPart copy_marks copy rest.entry result }
 {
     let rest = after(LexemeKind::Copy, rest)?;
     let rest = after(LexemeKind::Into, rest)?;

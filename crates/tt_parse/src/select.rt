@@ -3,8 +3,7 @@
 ghost use Rattle.std.specs.Prelude.{IfOk};
 ghost use Rattle.tt_sql.specs.marks.Expressions.{table_marks};
 ghost use Rattle.tt_sql.specs.grammar.Combinators.{one, quoted_name, ◌▸◌};
-ghost use Rattle.tt_sql.specs.determined.Queries.{IsAloneTable, IsGivenQuery};
-ghost use Rattle.tt_sql.specs.trees.Lists.{WhenThere};
+ghost use Rattle.tt_sql.specs.determined.Queries.{IsGivenQuery};
 ghost use Rattle.tt_sql.specs.marks.Queries.{query_marks};
 ghost use Rattle.tt_sql.specs.machine.Factored.{read_query, read_select};
 ghost use Rattle.tt_sql.specs.determined.Statements.{IsGivenStatement};
@@ -61,8 +60,7 @@ fn view_of(rest: Rest<'_>) -> Result<Option<Rest<'_>>, ParseError>
 /// The table whose name a quoted text is.
 fn quoted_table_of<'a>(alloc: Global, rest: Rest<'a>) -> Result<(TableName, Rest<'a>), ParseError>
     requires { IsKnown rest }
-    ensures reads { ReadsPart table_marks quoted_name rest.entry result }
-    ensures given { IfOk result (λ x. IsAloneTable x.0) }
+    ensures { ReadsPart table_marks quoted_name rest.entry result }
 {
     let Some(_) = either_word(LexemeKind::NameText, LexemeKind::UnitText, rest) else {
         return Err(rest.fault());
@@ -79,8 +77,7 @@ fn quoted_table_of<'a>(alloc: Global, rest: Rest<'a>) -> Result<(TableName, Rest
 /// The table whose depth is asked for, if such a statement stands here.
 fn depth_of<'a>(alloc: Global, rest: Rest<'a>) -> Result<Option<(TableName, Rest<'a>)>, ParseError>
     requires { IsKnown rest }
-    ensures reads { ReadsIf depth_kinds (λ x. depth_marks x.0) (λ x. x.1) rest.entry result }
-    ensures given { IfOk result (λ found. WhenThere (λ x. IsAloneTable x.0) found) }
+    ensures { ReadsIf depth_kinds (λ x. depth_marks x.0) (λ x. x.1) rest.entry result }
 {
     let Some(rest) = depth_words(rest) else {
         return Ok(None);

@@ -3,11 +3,10 @@
 ghost use Rattle.std.specs.Prelude.{[], IfOk, ⊤};
 ghost use Rattle.tt_sql.specs.marks.Expressions.{name_marks, number_marks, table_marks};
 ghost use Rattle.tt_sql.specs.grammar.Combinators.{brackets, listed, maybe, name as name_part, number as number_part, one, ◌▸◌};
-ghost use Rattle.tt_sql.specs.determined.Queries.{IsAloneTable};
+ghost use Rattle.tt_sql.specs.determined.Queries.{IsAloneTable, IsGivenSource};
 ghost use Rattle.tt_sql.specs.trees.Lists.{IsListed};
 ghost use Rattle.tt_sql.specs.machine.Factored.{read_create};
-ghost use Rattle.tt_sql.specs.determined.Statements.{IsGivenChange, IsGivenSource, IsGivenStatement};
-ghost use Rattle.tt_sql.specs.declared.statement.Statement.TheVariants as statement;
+ghost use Rattle.tt_sql.specs.determined.Statements.{IsGivenStatement};
 ghost use Rattle.tt_sql.specs.marks.Statements.{statement_marks};
 ghost use Rattle.tt_sql.specs.marks.Tables.{alter_marks, change_marks, definition_marks, kind_marks, options_marks, table_kind_marks};
 ghost use Rattle.tt_sql.specs.grammar.TokenKinds.{BY, EQUAL, TRANSIENT};
@@ -222,8 +221,7 @@ fn front_of<'a>(
     rest: Rest<'a>,
 ) -> Result<((bool, TableKind, TableName), Rest<'a>), ParseError>
     requires { IsKnown rest }
-    ensures reads { ReadsPart create_front_marks create_front rest.entry result }
-    ensures given { IfOk result (λ x. IsAloneTable x.0.2) }
+    ensures { ReadsPart create_front_marks create_front rest.entry result }
 {
     let rest = after(LexemeKind::Create, rest)?;
     let (replaces, rest) = flag_of_both(LexemeKind::Or, LexemeKind::Replace, rest)?;
@@ -339,8 +337,7 @@ pub fn truncate_of<'a>(alloc: Global, rest: Rest<'a>) -> Result<(TableName, Rest
 /// ALTER TABLE.
 pub fn alter_of<'a>(alloc: Global, rest: Rest<'a>) -> Result<(Alter, Rest<'a>), ParseError>
     requires { IsKnown rest }
-    ensures reads { ReadsPart alter_marks alter rest.entry result }
-    ensures given { IfOk result (λ x. IsGivenStatement (statement.Alter x.0)) }
+    ensures { ReadsPart alter_marks alter rest.entry result }
 {
     let rest = after(LexemeKind::Alter, rest)?;
     let rest = after(LexemeKind::Table, rest)?;
@@ -352,8 +349,7 @@ pub fn alter_of<'a>(alloc: Global, rest: Rest<'a>) -> Result<(Alter, Rest<'a>), 
 /// What ALTER TABLE changes.
 fn change_of<'a>(alloc: Global, rest: Rest<'a>) -> Result<(Change, Rest<'a>), ParseError>
     requires { IsKnown rest }
-    ensures reads { ReadsPart change_marks change rest.entry result }
-    ensures given { IfOk result (λ x. IsGivenChange x.0) }
+    ensures { ReadsPart change_marks change rest.entry result }
 {
     if let Some(rest) = rest.word(LexemeKind::Rename) {
         let rest = after(LexemeKind::To, rest)?;
@@ -380,8 +376,7 @@ fn change_of<'a>(alloc: Global, rest: Rest<'a>) -> Result<(Change, Rest<'a>), Pa
 /// The changes that have no name and no number.
 fn upkeep_of(rest: Rest<'_>) -> Result<(Change, Rest<'_>), ParseError>
     requires { IsKnown rest }
-    ensures reads { ReadsPart change_marks upkeep rest.entry result }
-    ensures given { IfOk result (λ x. IsGivenChange x.0) }
+    ensures { ReadsPart change_marks upkeep rest.entry result }
 {
     if let Some(rest) = rest.word(LexemeKind::Drop) {
         let rest = after(LexemeKind::Clustering, rest)?;

@@ -23,8 +23,7 @@ pub returns-clause-reads : goal.returns-clause-reads
 returns-clause-reads c = rw (pair_first _ _ _ c.in_ok-table.ensures) (passes_both c.in_ok-rest.ensures (passes_both c.in_ok-rest-2.ensures (passes_both c.in_ok-name.ensures.reads (pair_reads _ _ _ (λ x. inserts_marks x.0) _ _ c.in_ok-table.ensures c.inserted_of.ensures.reads))))
 
 pub returns-clause-given : goal.returns-clause-given
-returns-clause-given c = rw (pair_first _ _ _ c.in_ok-table.ensures) (
-  c.in_ok-name.ensures.given,
+returns-clause-given c = (
   pair_holds _ _ _ (λ x. WhenThere (λ names. IsListed (λ n. ⊤) names) x.0.0) c.in_ok-table.ensures c.inserted_of.ensures.columns,
   pair_holds _ _ _ (λ x. IsGivenInsertSource x.0.1) c.in_ok-table.ensures c.inserted_of.ensures.source,
 )

@@ -4,11 +4,11 @@ use Rattle.tt_terminal.proofs.Steps.{passes_as, passes_both, stops_first, stops_
 use Rattle.tt_phrase.proofs.SelectReads.{depth_passes, depth_stops, if_exit}
 use Rattle.tt_parse.proofs.select.depth_of.Goals as goal
 
-pub returns-in_err-table-clause-reads : goal.returns-in_err-table-clause-reads
-returns-in_err-table-clause-reads c = if_exit depth_kinds _ _ _ _ c.from_residual.result c.from_residual.ensures.1 (λ levels. within (λ at f. depth_stops levels c.in-Some.ensures (stops_first f)) _ c.in_err-table.ensures.reads)
+pub returns-in_err-table : goal.returns-in_err-table
+returns-in_err-table c = if_exit depth_kinds _ _ _ _ c.from_residual.result c.from_residual.ensures.1 (λ levels. within (λ at f. depth_stops levels c.in-Some.ensures (stops_first f)) _ c.in_err-table.ensures)
 
-pub returns-in_err-rest-clause-reads : goal.returns-in_err-rest-clause-reads
-returns-in_err-rest-clause-reads c = if_exit depth_kinds _ _ _ _ c.from_residual-in_err-rest.result c.from_residual-in_err-rest.ensures.1 (λ levels. within (λ at f. depth_stops levels c.in-Some.ensures (stops_second c.in_ok-table.ensures.reads (stops_first f))) _ c.in_err-rest.ensures)
+pub returns-in_err-rest : goal.returns-in_err-rest
+returns-in_err-rest c = if_exit depth_kinds _ _ _ _ c.from_residual-in_err-rest.result c.from_residual-in_err-rest.ensures.1 (λ levels. within (λ at f. depth_stops levels c.in-Some.ensures (stops_second c.in_ok-table.ensures (stops_first f))) _ c.in_err-rest.ensures)
 
-pub returns-clause-reads : goal.returns-clause-reads
-returns-clause-reads c = λ levels. depth_passes levels c.in-Some.ensures (passes_both c.in_ok-table.ensures.reads (passes_as c.in_ok-rest.ensures))
+pub returns : goal.returns
+returns c = λ levels. depth_passes levels c.in-Some.ensures (passes_both c.in_ok-table.ensures (passes_as c.in_ok-rest.ensures))

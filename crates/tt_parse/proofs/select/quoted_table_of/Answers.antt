@@ -8,8 +8,8 @@ use Rattle.tt_terminal.proofs.Steps.{marks_are, stops_here}
 use Rattle.tt_parse.proofs.QuotedNames.{name_is_quoted, name_printable, passes_quoted_name}
 use Rattle.tt_parse.proofs.select.quoted_table_of.Goals as goal
 
-pub returns-in_default-clause-reads : goal.returns-in_default-clause-reads
-returns-in_default-clause-reads c =
+pub returns-in_default : goal.returns-in_default
+returns-in_default c =
     let fails : Fails [] quoted_name c.args.rest (first_place c.args.rest) = stops_here (rw c.in_default.ensures refl) refl in
     rw c.fault.ensures fails
 
@@ -26,8 +26,8 @@ upper_text-requires-clause-plain c =
 pub upper_text-requires-clause-short : goal.upper_text-requires-clause-short
 upper_text-requires-clause-short c = subst (λ (x : List ℕ). length x ≤ 65535) (sym (c.as_bytes.ensures.value ∙ c.as_str.ensures.value)) c.as_str.ensures.valid.short
 
-pub returns-clause-reads : goal.returns-clause-reads
-returns-clause-reads c =
+pub returns : goal.returns
+returns c =
     let is : IsQuoted c.args.rest c.in-Some-2.quoted c.in-Some-2.behind = rw c.in-Some-2.is at (c.in_ok-quoted.ensures) in
     marks_are (ap (λ (x : List ℕ). Said x c.in-Some-2.quoted.place ∷ []) (c.in_ok-text.ensures ∙ ap upper (c.as_bytes.ensures.value ∙ c.as_str.ensures.value)))
     (passes_quoted_name is c.in-Some.ensures.0)

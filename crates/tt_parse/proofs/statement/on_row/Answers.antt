@@ -25,10 +25,10 @@ pub returns-then-stands-3-clause-reads : goal.returns-then-stands-3-clause-reads
 returns-then-stands-3-clause-reads c = λ others. passes_right (rw (sym c.if-stands.ensures) refl) refl (passes_right (rw (sym c.if-stands-2.ensures) refl) refl (passes_left (eqb-true _ _ (sym c.if-stands-3.ensures)) refl refl (passes_as c.in_ok-delete.ensures.reads)))
 
 pub returns-in_err-copy-clause-reads : goal.returns-in_err-copy-clause-reads
-returns-in_err-copy-clause-reads c = chooses_exit _ _ (on_rows c.args.levels) _ _ c.from_residual-in_err-copy.result c.from_residual-in_err-copy.ensures.1 (λ others. within (λ at f. stops_right (rw (sym c.if-stands.ensures) refl) refl (stops_right (rw (sym c.if-stands-2.ensures) refl) refl (stops_right (rw (sym c.if-stands-3.ensures) refl) refl (stops_left (eqb-true _ _ (sym c.if-stands-4.ensures)) refl refl (stops_first f))))) _ c.in_err-copy.ensures.reads)
+returns-in_err-copy-clause-reads c = chooses_exit _ _ (on_rows c.args.levels) _ _ c.from_residual-in_err-copy.result c.from_residual-in_err-copy.ensures.1 (λ others. within (λ at f. stops_right (rw (sym c.if-stands.ensures) refl) refl (stops_right (rw (sym c.if-stands-2.ensures) refl) refl (stops_right (rw (sym c.if-stands-3.ensures) refl) refl (stops_left (eqb-true _ _ (sym c.if-stands-4.ensures)) refl refl (stops_first f))))) _ c.in_err-copy.ensures)
 
 pub returns-then-stands-4-clause-reads : goal.returns-then-stands-4-clause-reads
-returns-then-stands-4-clause-reads c = λ others. passes_right (rw (sym c.if-stands.ensures) refl) refl (passes_right (rw (sym c.if-stands-2.ensures) refl) refl (passes_right (rw (sym c.if-stands-3.ensures) refl) refl (passes_left (eqb-true _ _ (sym c.if-stands-4.ensures)) refl refl (passes_as c.in_ok-copy.ensures.reads))))
+returns-then-stands-4-clause-reads c = λ others. passes_right (rw (sym c.if-stands.ensures) refl) refl (passes_right (rw (sym c.if-stands-2.ensures) refl) refl (passes_right (rw (sym c.if-stands-3.ensures) refl) refl (passes_left (eqb-true _ _ (sym c.if-stands-4.ensures)) refl refl (passes_as c.in_ok-copy.ensures))))
 
 pub returns-clause-reads : goal.returns-clause-reads
 returns-clause-reads c = skips_first (rw (sym c.if-stands.ensures) refl) refl (skips_first (rw (sym c.if-stands-2.ensures) refl) refl (skips_first (rw (sym c.if-stands-3.ensures) refl) refl (skips_first (rw (sym c.if-stands-4.ensures) refl) refl skips_none)))

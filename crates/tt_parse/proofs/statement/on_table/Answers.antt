@@ -31,10 +31,10 @@ pub returns-then-stands-4-clause-reads : goal.returns-then-stands-4-clause-reads
 returns-then-stands-4-clause-reads c = λ others. passes_right (rw ((sym c.if-stands.ensures)) refl) refl (passes_right (rw ((sym c.if-stands-2.ensures)) refl) refl (passes_right (rw ((sym c.if-stands-3.ensures)) refl) refl (passes_left (eqb-true _ _ (sym c.if-stands-4.ensures)) refl refl (passes_as c.in_ok-table-3.ensures.reads))))
 
 pub returns-in_err-alter-clause-reads : goal.returns-in_err-alter-clause-reads
-returns-in_err-alter-clause-reads c = chooses_exit _ _ on_tables _ _ c.from_residual-in_err-alter.result c.from_residual-in_err-alter.ensures.1 (λ others. within (λ at f. stops_right (rw ((sym c.if-stands.ensures)) refl) refl (stops_right (rw ((sym c.if-stands-2.ensures)) refl) refl (stops_right (rw ((sym c.if-stands-3.ensures)) refl) refl (stops_right (rw ((sym c.if-stands-4.ensures)) refl) refl (stops_left (eqb-true _ _ (sym c.if-stands-5.ensures)) refl refl (stops_first f)))))) _ c.in_err-alter.ensures.reads)
+returns-in_err-alter-clause-reads c = chooses_exit _ _ on_tables _ _ c.from_residual-in_err-alter.result c.from_residual-in_err-alter.ensures.1 (λ others. within (λ at f. stops_right (rw ((sym c.if-stands.ensures)) refl) refl (stops_right (rw ((sym c.if-stands-2.ensures)) refl) refl (stops_right (rw ((sym c.if-stands-3.ensures)) refl) refl (stops_right (rw ((sym c.if-stands-4.ensures)) refl) refl (stops_left (eqb-true _ _ (sym c.if-stands-5.ensures)) refl refl (stops_first f)))))) _ c.in_err-alter.ensures)
 
 pub returns-then-stands-5-clause-reads : goal.returns-then-stands-5-clause-reads
-returns-then-stands-5-clause-reads c = λ others. passes_right (rw ((sym c.if-stands.ensures)) refl) refl (passes_right (rw ((sym c.if-stands-2.ensures)) refl) refl (passes_right (rw ((sym c.if-stands-3.ensures)) refl) refl (passes_right (rw ((sym c.if-stands-4.ensures)) refl) refl (passes_left (eqb-true _ _ (sym c.if-stands-5.ensures)) refl refl (passes_as c.in_ok-alter.ensures.reads)))))
+returns-then-stands-5-clause-reads c = λ others. passes_right (rw ((sym c.if-stands.ensures)) refl) refl (passes_right (rw ((sym c.if-stands-2.ensures)) refl) refl (passes_right (rw ((sym c.if-stands-3.ensures)) refl) refl (passes_right (rw ((sym c.if-stands-4.ensures)) refl) refl (passes_left (eqb-true _ _ (sym c.if-stands-5.ensures)) refl refl (passes_as c.in_ok-alter.ensures)))))
 
 pub returns-clause-reads : goal.returns-clause-reads
 returns-clause-reads c = skips_first (rw (sym c.if-stands.ensures) refl) refl (skips_first (rw (sym c.if-stands-2.ensures) refl) refl (skips_first (rw (sym c.if-stands-3.ensures) refl) refl (skips_first (rw (sym c.if-stands-4.ensures) refl) refl (skips_first (rw (sym c.if-stands-5.ensures) refl) refl skips_none))))

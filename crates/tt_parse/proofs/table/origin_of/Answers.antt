@@ -21,4 +21,4 @@ returns-clause-reads c = rw (pair_first _ _ _ c.in_ok-table.ensures)
     (passes_both c.in_ok-rest.ensures (passes_both c.in_ok-name.ensures.reads (passes_as (pair_reads _ _ _ (λ x. maybe_marks clause_marks x.0) _ _ c.in_ok-table.ensures c.optional_clause.ensures.reads))))
 
 pub returns-clause-given : goal.returns-clause-given
-returns-clause-given c = rw (pair_first _ _ _ c.in_ok-table.ensures) (c.in_ok-name.ensures.given, pair_holds _ _ _ (λ x. WhenThere IsGivenClause x.0) c.in_ok-table.ensures c.optional_clause.ensures.given)
+returns-clause-given c = pair_holds _ _ _ (λ x. WhenThere IsGivenClause x.0) c.in_ok-table.ensures c.optional_clause.ensures.given
