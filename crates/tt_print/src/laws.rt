@@ -1,6 +1,6 @@
 //! Laws of the text of a statement. They compute nothing.
 
-ghost use Rattle.std.specs.Prelude.{◌≡◌, ◌∷◌, [], ◌<◌, ◌^◌, ℕ, List, Ok, true, false, codes, pos};
+ghost use Rattle.std.specs.Prelude.{◌≡◌, ◌∷◌, [], ◌<◌, ◌^◌, ◌↔◌, ℕ, List, Ok, true, false, codes, pos};
 ghost use Rattle.tt_lex.specs.TokensOf.{tokens_of};
 ghost use Rattle.tt_value.specs.declared.name.Name.{Name};
 ghost use Rattle.tt_value.specs.declared.name.Number.{Number};
@@ -131,4 +131,20 @@ pub fn places_are_apart()
         → IsWrittenStatement i s → IsWrittenStatement j t
         → unplaced (statement_marks s) ≡ unplaced (statement_marks t)
         → unplaced_statement s ≡ unplaced_statement t }
+{}
+
+/// Two statements are the same but for places exactly where they are printed as the same text. So each statement that
+/// a text has is that of one printed text only, but for places. And they are the same but for places exactly where
+/// they note the same marks but for places.
+pub fn a_statement_has_one_text()
+    ensures written { (s t : Statement)
+        → IsWrittenStatement most_levels s → IsWrittenStatement most_levels t
+        → (unplaced_statement s ≡ unplaced_statement t) ↔ (statement_text s ≡ statement_text t) }
+    ensures read { (a b : List ℕ) (s t : Statement)
+        → statement_of a ≡ Ok s → statement_of b ≡ Ok t
+        → (unplaced_statement s ≡ unplaced_statement t) ↔ (statement_text s ≡ statement_text t) }
+    ensures noted { (i j : ℕ) (s t : Statement)
+        → IsWrittenStatement i s → IsWrittenStatement j t
+        → (unplaced_statement s ≡ unplaced_statement t)
+        ↔ (unplaced (statement_marks s) ≡ unplaced (statement_marks t)) }
 {}

@@ -89,25 +89,28 @@ query_words_are q none =
     ap (λ (joins : List Join). (codes "SELECT" ∷ (selection_words q.selection ++ (codes "FROM" ∷ ((table_name_words q.first.table ++ moment) ++ flat_map join_words joins)))) ++ narrowed_words q) none
     ∙ shape (selection_words q.selection) (table_name_words q.first.table) moment (narrowed_words q)
 
-end_marks : Query → List Mark
-end_marks q = maybe_marks clause_marks q.first.clause
+-- with these further tables
+end_marks : Query → List Join → List Mark
+end_marks q joins = maybe_marks clause_marks q.first.clause
+    ++ (joins_marks joins
     ++ (maybe_marks predicate_marks q.filter
     ++ (maybe_listed (map column_marks q.group)
     ++ (maybe_listed (map key_marks q.order)
-    ++ maybe_marks number_marks q.limit)))
+    ++ maybe_marks number_marks q.limit))))
 
-query_marks_are : (q : Query) → q.joins ≡ [] → query_marks q ≡ At q.place ∷ (selection_marks q.selection ++ (table_marks q.first.table ++ end_marks q))
+query_marks_are : (q : Query) → q.joins ≡ [] → query_marks q ≡ At q.place ∷ (selection_marks q.selection ++ (table_marks q.first.table ++ end_marks q []))
 unfolding end_marks
-query_marks_are q none = ap (λ (joins : List Join). At q.place ∷ (selection_marks q.selection ++ (table_marks q.first.table ++ (joins_marks joins ++ end_marks q)))) none
+query_marks_are q none = ap (λ (joins : List Join). At q.place ∷ (selection_marks q.selection ++ (table_marks q.first.table ++ end_marks q joins))) none
 
-end_read : (levels : ℕ) (q : Query) → IsWrittenQuery levels q → IsReadAs (query_end levels) (words_if clause_words q.first.clause ++ narrowed_words q) (end_marks q)
+end_read : (levels : ℕ) (q : Query) → IsWrittenQuery levels q → IsReadAs (query_end levels) (words_if clause_words q.first.clause ++ narrowed_words q) (end_marks q [])
 unfolding end_marks
 end_read levels q is =
     in_order (when_there clause clause_words clause_marks IsWrittenClause clause_read q.first.clause is.table.1)
+    (in_order (a_way 0)
     (in_order (when_there (one WHERE ▸ pred levels) filter_words predicate_marks (IsWrittenPredicate levels) (filter_read levels) q.filter is.filter)
     (in_order (group_read q.group is.group)
     (in_order (order_read q.order is.order)
-    (when_there (one LIMIT ▸ number) limit_words number_marks IsWrittenNumber limit_read q.limit is.limit))))
+    (when_there (one LIMIT ▸ number) limit_words number_marks IsWrittenNumber limit_read q.limit is.limit)))))
 
 pub query_read : (levels : ℕ) (q : Query) → IsWrittenQuery levels q → IsReadAs (query levels) (query_words q) (query_marks q)
 unfolding word_kind

@@ -1,5 +1,5 @@
 -- The text of a printed statement is the text of that statement again.
-use Rattle.std.proofs.Common.{◌≡◌, ℕ, List, Ok, sym, ap, ◌∙◌, subst}
+use Rattle.std.proofs.Common.{◌≡◌, ℕ, List, Result, Ok, Err, ◌↔◌, sym, ap, ◌∙◌, subst}
 use Rattle.std.specs.List.{join_with_byte}
 use Rattle.tt_lex.specs.TokensOf.{tokens_of}
 use Rattle.tt_sql.specs.declared.statement.Statement.{Statement}
@@ -7,6 +7,7 @@ use Rattle.tt_sql.specs.grammar.Grammar.{Mark}
 use Rattle.tt_sql.specs.grammar.Statements.{IsStatement}
 use Rattle.tt_sql.specs.grammar.TokenKinds.{lexemes}
 use Rattle.tt_print.specs.places.Trees.{unplaced_statement}
+use Rattle.tt_sql.specs.marks.Statements.{statement_marks}
 use Rattle.tt_sql.specs.text.StatementOf.{most_levels, statement_of}
 use Rattle.tt_sql.proofs.text.StatementOf.{found_statement, whole_text, is_text_of}
 use Rattle.tt_print.specs.text.Statements.{statement_words, statement_text}
@@ -38,3 +39,29 @@ read_again s is =
 
 pub text_again : (text : List ℕ) (s : Statement) → statement_of text ≡ Ok s → IsReadAgain s
 text_again text s e = read_again s (is_text_of text s e).written
+
+-- ---- a statement has one text
+
+statement_or : Statement → Result Statement ℕ → Statement
+statement_or d (Ok s) = s
+statement_or d (Err at) = d
+
+same_answer : (r : Result Statement ℕ) (x y : Statement) → r ≡ Ok x → r ≡ Ok y → x ≡ y
+unfolding statement_or
+same_answer r x y e f = sym (ap (statement_or x) e) ∙ ap (statement_or x) f
+
+same_tree : (s t : Statement) → IsWrittenStatement most_levels s → IsWrittenStatement most_levels t → statement_text s ≡ statement_text t → unplaced_statement s ≡ unplaced_statement t
+same_tree s t is are same =
+    let a = read_again s is in
+    let b = read_again t are in
+    let one : a.again ≡ b.again = same_answer (statement_of (statement_text s)) a.again b.again a.read (ap statement_of same ∙ b.read) in
+    sym a.same ∙ ap unplaced_statement one ∙ b.same
+
+pub one_text : (s t : Statement) → IsWrittenStatement most_levels s → IsWrittenStatement most_levels t → (unplaced_statement s ≡ unplaced_statement t) ↔ (statement_text s ≡ statement_text t)
+one_text s t is are = (same_words t s are is, same_tree s t is are)
+
+pub one_text_read : (a b : List ℕ) (s t : Statement) → statement_of a ≡ Ok s → statement_of b ≡ Ok t → (unplaced_statement s ≡ unplaced_statement t) ↔ (statement_text s ≡ statement_text t)
+one_text_read a b s t e f = one_text s t (is_text_of a s e).written (is_text_of b t f).written
+
+pub one_note : (i j : ℕ) (s t : Statement) → IsWrittenStatement i s → IsWrittenStatement j t → (unplaced_statement s ≡ unplaced_statement t) ↔ (unplaced (statement_marks s) ≡ unplaced (statement_marks t))
+one_note i j s t is are = (λ same. sym (statement_kept i s is).noted ∙ ap statement_marks same ∙ (statement_kept j t are).noted, alike_statements i j s t is are)

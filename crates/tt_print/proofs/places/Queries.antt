@@ -143,8 +143,9 @@ query_kept levels q is =
           (joined (maybe_written (IsWrittenPredicate levels) filter_words predicate_marks unplaced_predicate (filter_kept levels) q.filter is.filter)
           (joined (group_written q.group is.group) (joined (order_written q.order is.order)
           (maybe_written IsWrittenNumber limit_words number_marks unplaced_number limit_kept q.limit is.limit))));
-      noted = at_zero (both_noted _ _ things.noted (both_noted _ _ table.noted (both_noted _ _ (no_joins_noted q.joins is.joins)
+      noted = at_zero (both_noted _ _ things.noted (both_noted _ _ table.noted
           (both_noted _ _ (maybe_noted IsWrittenClause clause_words clause_marks unplaced_clause clause_kept q.first.clause is.table.1)
+          (both_noted _ _ (no_joins_noted q.joins is.joins)
           (both_noted _ _ (maybe_noted (IsWrittenPredicate levels) filter_words predicate_marks unplaced_predicate (filter_kept levels) q.filter is.filter)
           (both_noted _ _ (some_noted IsWrittenColumn column_name_words column_marks unplaced_column column_kept q.group is.group)
           (both_noted _ _ (some_noted IsWrittenKey key_words key_marks unplaced_key key_kept q.order is.order)
