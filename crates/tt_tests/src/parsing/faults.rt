@@ -68,6 +68,62 @@ fn names_are_words_that_are_not_reserved(rt: HostRuntime) -> Result<(), Fail> {
 }
 
 #[test]
+fn words_of_later_parts_are_plain_names(rt: HostRuntime) -> Result<(), Fail> {
+    assert_statements(
+        &rt,
+        &[
+            (
+                "create table temp(temporary int,schema date,public varchar)",
+                "CREATE TABLE TEMP ( TEMPORARY INT , SCHEMA DATE , PUBLIC VARCHAR )",
+            ),
+            (
+                "select temp,public from schema where temporary=1",
+                "SELECT TEMP , PUBLIC FROM SCHEMA WHERE TEMPORARY = 1",
+            ),
+            (
+                "alter table public rename to temporary",
+                "ALTER TABLE PUBLIC RENAME TO TEMPORARY",
+            ),
+            (
+                "select system$clustering_depth('schema')",
+                "SELECT SYSTEM$CLUSTERING_DEPTH ( 'SCHEMA' )",
+            ),
+        ],
+    )?;
+    assert_faults(
+        &rt,
+        &[
+            ("CREATE TEMPORARY TABLE t (x INT)", 7),
+            ("CREATE OR REPLACE TEMP TABLE t CLONE u", 18),
+            ("CREATE SCHEMA s", 7),
+            ("DROP SCHEMA s", 5),
+            ("UNDROP SCHEMA s", 7),
+        ],
+    )
+}
+
+#[test]
+fn names_stand_alone_and_queries_have_one_table(rt: HostRuntime) -> Result<(), Fail> {
+    assert_faults(
+        &rt,
+        &[
+            ("SELECT t.x FROM t", 8),
+            ("SELECT COUNT(t.x) FROM t", 14),
+            ("SELECT x FROM s.t", 15),
+            ("DELETE FROM t WHERE t.x = 1", 21),
+            ("SELECT x FROM t ORDER BY t.x", 26),
+            ("DROP TABLE s.t", 12),
+            ("ALTER TABLE t RENAME TO s.u", 25),
+            ("SELECT x FROM t JOIN u ON t.x = u.x", 16),
+            (
+                "SELECT x FROM t AT(OFFSET => 0) INNER JOIN u ON t.x = u.x",
+                32,
+            ),
+        ],
+    )
+}
+
+#[test]
 fn numbers_and_dates_are_in_range(rt: HostRuntime) -> Result<(), Fail> {
     assert_statements(
         &rt,
