@@ -1,6 +1,6 @@
 -- The greatest of some reaches.
-use Rattle.std.proofs.Common.{◌≡◌, ℕ, List, [], ◌∷◌, ◌++◌, refl, ap, ◌∙◌, sym, max, arith, Bool}
-use Rattle.std.specs.Prelude.{nat_le, true, false, ◌&&◌, ◌≤◌}
+use Rattle.std.proofs.Common.{◌≡◌, ℕ, List, [], ◌∷◌, ◌++◌, ap, ◌∙◌, max, arith}
+use Rattle.std.specs.Prelude.{nat_le, true, ◌&&◌}
 use Rattle.std.specs.List.{list_all}
 use Rattle.std.proofs.lemmas.Bool.Decides.{nat_tests}
 use Rattle.tt_plain.specs.asked.Reach.{Reach, reach_number}

@@ -1,5 +1,5 @@
 -- Refusals 11 to 15 of one table that is read.
-use Rattle.std.proofs.Common.{◌≡◌, ℕ, Bool, true, false, List, [], ◌∷◌, Option, Some, None, refl, ap, sym, ◌∙◌}
+use Rattle.std.proofs.Common.{◌≡◌, Bool, true, false, [], ◌∷◌, Option, Some, None, refl}
 use Rattle.std.specs.Prelude.{filter_map, ℤ}
 use Rattle.tt_value.specs.declared.name.TableName.{TableName}
 use Rattle.tt_sql.specs.declared.query.Clause.{Clause}

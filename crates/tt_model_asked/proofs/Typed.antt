@@ -1,5 +1,5 @@
 -- Refusals 4 to 7 are what the typer finds, and a depth without a key.
-use Rattle.std.proofs.Common.{◌≡◌, ℕ, List, [], ◌∷◌, ◌++◌, Option, Some, None, Result, Ok, refl, append-nil}
+use Rattle.std.proofs.Common.{◌≡◌, ℕ, [], ◌∷◌, Option, Some, None, Ok, refl, append-nil}
 use Rattle.std.specs.Option.{option_map}
 use Rattle.tt_sql.specs.declared.statement.Statement.{Statement}
 use Rattle.tt_sql.specs.declared.statement.Statement.TheVariants as statement
@@ -13,7 +13,7 @@ use Rattle.tt_plain.specs.TypeMismatches.{type_mismatches}
 use Rattle.tt_plain.specs.NullsInNotNull.{nulls_in_not_null}
 use Rattle.tt_plain.specs.asked.Asked.{Asked, schemas_asked}
 use Rattle.tt_plain.specs.asked.Request.{request_in}
-use Rattle.tt_plain.specs.refusal.{at_leftmost, first_some}
+use Rattle.tt_plain.specs.refusal.{first_some}
 use Rattle.tt_plain.specs.refusal.UnknownColumn.{tables_without_key}
 use Rattle.tt_model_asked.specs.TypedAs.{typed_by, without_key}
 use Rattle.tt_model_asked.specs.RefusalsAs.{refusals_of_typing}

@@ -1,5 +1,5 @@
 -- All refusals of a statement, group by group.
-use Rattle.std.proofs.Common.{◌≡◌, ◌∷◌, ◌++◌, Option, Some, None, Ok, refl, ap, sym, ◌∙◌}
+use Rattle.std.proofs.Common.{◌≡◌, ◌∷◌, ◌++◌, Some, None, Ok, refl, sym, ◌∙◌}
 use Rattle.std.specs.Option.{option_map}
 use Rattle.tt_sql.specs.declared.statement.Statement.{Statement}
 use Rattle.tt_history.specs.declared.reply.Refusal.{Refusal}

@@ -1,9 +1,8 @@
 -- What is asked, as a value of the definitions.
-use Rattle.std.specs.Prelude.{Err, Ok, Result, ℕ, ◌<◌, ◌≡◌, length, ◌^◌, Option, Some}
+use Rattle.std.specs.Prelude.{Err, Ok, Result, ℕ, ◌<◌, ◌≡◌, length, ◌^◌}
 use Rattle.tt_sql.specs.declared.statement.Statement.{Statement}
 use Rattle.tt_plain.specs.Tables.{IsOverOneTable}
 use Rattle.tt_plain.specs.asked.Asked.{Asked}
-use Rattle.tt_plain.specs.asked.Carried.{Carried}
 use Rattle.tt_model_asked.specs.declared.asked.Asked.{Asked as AskedValue}
 use Rattle.tt_model_asked.specs.declared.asked.Read.{Read}
 use Rattle.tt_model_asked.specs.declared.asked.Read.TheVariants as given

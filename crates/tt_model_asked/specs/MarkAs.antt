@@ -1,7 +1,6 @@
 -- The sessions whose marks stand in the way of one that may or may not be exclusive.
-use Rattle.std.specs.List.{list_any, enumerate_from}
-use Rattle.std.specs.Prelude.{Bool, List, true, false, filter, map, not, ℕ, ◌&&◌, ◌||◌, ◌==◌}
-use Rattle.tt_plain.specs.declared.store.PlainMark.{PlainMark}
+use Rattle.std.specs.List.{enumerate_from}
+use Rattle.std.specs.Prelude.{Bool, List, true, false, filter, map, not, ℕ, ◌==◌}
 use Rattle.tt_plain.specs.declared.store.PlainSession.{PlainSession}
 use Rattle.tt_plain.specs.stored.Sessions.{has_mark, has_exclusive_mark}
 

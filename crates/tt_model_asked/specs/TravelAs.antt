@@ -1,7 +1,6 @@
 -- Refusals 11 to 15 of the tables that are read at points.
 use Rattle.std.specs.List.{list_any}
 use Rattle.std.specs.Prelude.{Err, List, None, Ok, Option, Result, Some, [], filter_map, option_map, ℕ, ℤ, ◌∷◌}
-use Rattle.std.specs.Option.{option_and_then}
 use Rattle.tt_history.specs.declared.reply.Refusal.{Refusal}
 use Rattle.tt_sql.specs.declared.query.Source.{Source}
 use Rattle.tt_plain.specs.declared.store.PlainTable.{PlainTable}

@@ -1,12 +1,10 @@
 -- Refusals 4 to 7 of a statement, together.
-use Rattle.std.specs.Prelude.{List, None, Option, Some, filter_map, option_map, ◌≡◌}
-use Rattle.std.specs.Option.{option_and_then}
+use Rattle.std.specs.Prelude.{List, Option, Some, filter_map, option_map, ◌≡◌}
 use Rattle.tt_value.specs.declared.name.TableName.{TableName}
 use Rattle.tt_value.specs.declared.value.Schema.{Schema}
 use Rattle.tt_sql.specs.declared.statement.Statement.{Statement}
 use Rattle.tt_history.specs.declared.reply.Refusal.{Refusal}
 use Rattle.tt_plain.specs.declared.store.PlainTable.{PlainTable}
-use Rattle.tt_plain.specs.Places.{table_begin}
 use Rattle.tt_plain.specs.asked.Asked.{Asked, schemas_asked, table_asked}
 use Rattle.tt_plain.specs.refusal.{at_leftmost}
 use Rattle.tt_plain.specs.refusal.UnknownColumn.{place_without_key}

@@ -1,5 +1,4 @@
-use Rattle.std.proofs.Common.{sym, ◌∙◌, ap}
-use Rattle.std.specs.Prelude.{nat_le}
+use Rattle.std.proofs.Common.{sym}
 use Rattle.tt_plain.specs.asked.Request.{request_in}
 use Rattle.tt_plain.specs.asked.Reach.{reaches_needed, reach_number}
 use Rattle.tt_model_asked.specs.ReachAs.{reach_in}
