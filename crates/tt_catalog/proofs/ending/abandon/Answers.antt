@@ -1,0 +1,43 @@
+use Rattle.std.proofs.Common.{◌≡◌, ◌∷◌, ◌++◌, [], Some, sym, ap, ◌∙◌, subst, arith}
+use Rattle.tt_history.specs.declared.history.EntryKind.TheVariants as kind
+use Rattle.tt_history.specs.declared.history.Told.TheVariants as told
+use Rattle.tt_history.specs.declared.reply.Reply.TheVariants as reply
+use Rattle.tt_state_parts.proofs.Goes.{GoesOn, goes_on, has_room, made}
+use Rattle.tt_state_parts.proofs.Histories.{early, stands_sound}
+use Rattle.tt_state_parts.proofs.Turns.{is_open, ready}
+use Rattle.tt_state_parts.specs.Chronicle.{Chronicle, IsOpenRead, MadeEntry, entry_at, store_of}
+use Rattle.tt_state_parts.specs.Kept.{Kept}
+use Rattle.tt_catalog.proofs.Ended.{abandoned_goes}
+use Rattle.tt_catalog.proofs.ending.abandon.Goals as goal
+
+pub give_up-requires : goal.give_up-requires
+give_up-requires c =
+    let found = subst (λ (b : Chronicle). IsOpenRead b c.args.ticket.session c.args.ticket.index c.requires.0 c.requires.1) (sym c.cat.view_is) c.requires.2 in
+    ready _ _ _ _ _ _ _ c.cat.invariant (is_open _ _ _ _ _ _ (stands_sound _ _ _ c.cat.invariant) found).turn
+
+pub session_entry-entry-requires : goal.session_entry-entry-requires
+session_entry-entry-requires c = omega (arith, c.cat.invariant.sessions.moment, early _ _ _ c.cat.invariant)
+
+pub push-requires : goal.push-requires
+push-requires c =
+    let found = subst (λ (b : Chronicle). IsOpenRead b c.args.ticket.session c.args.ticket.index c.requires.0 c.requires.1) (sym c.cat.view_is) c.requires.2 in
+    has_room _ _ _ _ _ _ _ c.cat.invariant (abandoned_goes _ _ _ _ _ _ _ c.cat.invariant found).1
+
+pub invariant_of-cat : goal.invariant_of-cat
+invariant_of-cat c =
+    let found = subst (λ (b : Chronicle). IsOpenRead b c.args.ticket.session c.args.ticket.index c.requires.0 c.requires.1) (sym c.cat.view_is) c.requires.2 in
+    let chronicle : Chronicle = record { program = c.cat.inside.program; cap = c.cat.inside.cap; history = c.cat.inside.history.list } in
+    let goes = abandoned_goes chronicle _ _ c.args.ticket.session c.args.ticket.index _ _ c.cat.invariant found in
+    let longer = c.push.ensures.entries ∙ ap (λ e. c.cat.inside.history.list ++ e ∷ []) (c.session_entry-entry.ensures ∙ ap (λ m. entry_at m c.args.ticket.session c.args.ticket.index (kind.Abandon told.Memory)) c.cat.invariant.sessions.moment) in
+    let went = subst (λ (k : Kept). GoesOn chronicle k (entry_at (store_of chronicle).moment c.args.ticket.session c.args.ticket.index (kind.Abandon told.Memory)) goes.0 (Some reply.Memory)) (sym c.give_up.ensures) goes.1 in
+    goes_on _ _ _ _ _ _ _ _ _ c.cat.invariant went longer c.push.ensures.room
+
+pub returns : goal.returns
+returns c =
+    let found = subst (λ (b : Chronicle). IsOpenRead b c.args.ticket.session c.args.ticket.index c.requires.0 c.requires.1) (sym c.cat.view_is) c.requires.2 in
+    let chronicle : Chronicle = record { program = c.cat.inside.program; cap = c.cat.inside.cap; history = c.cat.inside.history.list } in
+    let goes = abandoned_goes chronicle _ _ c.args.ticket.session c.args.ticket.index _ _ c.cat.invariant found in
+    let longer = c.push.ensures.entries ∙ ap (λ e. c.cat.inside.history.list ++ e ∷ []) (c.session_entry-entry.ensures ∙ ap (λ m. entry_at m c.args.ticket.session c.args.ticket.index (kind.Abandon told.Memory)) c.cat.invariant.sessions.moment) in
+    let new : Chronicle = record { program = c.cat.inside.program; cap = c.cat.inside.cap; history = c.push.new.self.list } in
+    subst (λ (b : Chronicle). MadeEntry b new (entry_at (store_of b).moment c.args.ticket.session c.args.ticket.index (kind.Abandon told.Memory)) (Some reply.Memory)) c.cat.view_is
+    (made chronicle _ _ goes.0 _ _ goes.1 longer)
