@@ -1,8 +1,7 @@
 -- A text that is no statement is refused at its start.
-use Rattle.std.specs.Prelude.{Err, List, None, Ok, Option, Some, [], bytes_eq, filter, not, refl, true, ℕ, ◌==◌, ◌≡◌}
+use Rattle.std.specs.Prelude.{Err, Some, refl, ℕ, ◌≡◌}
 use Rattle.std.proofs.Common.{subst, sym}
 use Rattle.tt_script.specs.declared.script.Script.{Script}
-use Rattle.tt_history.specs.Refusals.{refusal_number}
 use Rattle.tt_plain.specs.asked.Asked.{Asked}
 use Rattle.tt_plain.specs.asked.Turns.{asked_with}
 use Rattle.tt_plain.specs.declared.store.Plain.{Plain}
@@ -37,11 +36,12 @@ module _ (chronicle : Chronicle) (kept : Kept) (room session index place : ℕ) 
 
   pub text_refused : (after : Plain) × GoesOn chronicle (with_ended chronicle.program kept session index) (entry_at store.moment session index (kind.Start (told.Refused 1))) after (Some (reply.Refused (refusal.Syntax place)))
   unfolding ended_with
-  text_refused =
-      (applied store (ended_with asked (reply.Refused (refusal.Syntax place))),
-      ended_goes chronicle kept room session index (Err place) stands (is_next chronicle.program store session index asked read) (kind.Start (told.Refused 1)) (reply.Refused (refusal.Syntax place))
-      (start_step built chronicle.program store session index asked (told.Refused 1) (ended_with asked (reply.Refused (refusal.Syntax place))) read
-      (start_refused asked refl (refusal.Syntax place) refused_as) refl) refl)
+  text_refused = (
+    applied store (ended_with asked (reply.Refused (refusal.Syntax place))),
+    ended_goes chronicle kept room session index (Err place) stands (is_next chronicle.program store session index asked read) (kind.Start (told.Refused 1)) (reply.Refused (refusal.Syntax place))
+        (start_step built chronicle.program store session index asked (told.Refused 1) (ended_with asked (reply.Refused (refusal.Syntax place))) read
+        (start_refused asked refl (refusal.Syntax place) refused_as) refl) refl,
+  )
 
 -- what is taken from pins and marks leaves the statement ready to end
 pub unpinned_ready : (program : Script) (old new : Kept) (session index : ℕ) → new ≡ with_unpinned old session → IsReady program old session index → IsReady program new session index

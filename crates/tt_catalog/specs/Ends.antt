@@ -3,7 +3,6 @@ use Rattle.std.specs.Prelude.{List, Ok, Result, Some, [], filter, not, ℕ, ◌=
 use Rattle.tt_value.specs.declared.value.Row.{Row}
 use Rattle.tt_sql.specs.declared.query.Query.{Query}
 use Rattle.tt_sql.specs.declared.statement.Statement.{Statement}
-use Rattle.tt_history.specs.declared.reply.Reply.{Reply}
 use Rattle.tt_marks.specs.Changes.{released}
 use Rattle.tt_plain.specs.declared.store.PlainOpen.{PlainOpen}
 use Rattle.tt_plain.specs.declared.tally.TallyPin.{TallyPin}

@@ -1,4 +1,4 @@
-use Rattle.std.proofs.Common.{◌≡◌, ◌∷◌, ◌++◌, [], Some, sym, ap, ◌∙◌, subst, arith, List}
+use Rattle.std.proofs.Common.{◌∷◌, ◌++◌, [], Some, sym, ap, ◌∙◌, subst, arith, List}
 use Rattle.tt_value.specs.declared.value.Row.{Row}
 use Rattle.tt_history.specs.declared.history.EntryKind.TheVariants as kind
 use Rattle.tt_history.specs.declared.reply.Reply.TheVariants as reply
@@ -30,8 +30,8 @@ invariant_of-cat c =
     let chronicle : Chronicle = record { program = c.cat.inside.program; cap = c.cat.inside.cap; history = c.cat.inside.history.list } in
     let goes = answered_goes chronicle _ _ c.args.ticket.session c.args.ticket.index _ _ c.requires.0 c.cat.invariant found.is_open found.answer in
     let longer = c.push.ensures.entries ∙ ap (λ e. c.cat.inside.history.list ++ e ∷ [])
-        (c.session_entry-entry.ensures ∙ ap (λ k. entry_at c.cat.inside.state.moment c.args.ticket.session c.args.ticket.index k) c.end_without_parts-end.ensures
-        ∙ ap (λ m. entry_at m c.args.ticket.session c.args.ticket.index (kind.End [] [])) c.cat.invariant.sessions.moment) in
+    (c.session_entry-entry.ensures ∙ ap (λ k. entry_at c.cat.inside.state.moment c.args.ticket.session c.args.ticket.index k) c.end_without_parts-end.ensures
+    ∙ ap (λ m. entry_at m c.args.ticket.session c.args.ticket.index (kind.End [] [])) c.cat.invariant.sessions.moment) in
     let went = subst (λ (k : Kept). GoesOn chronicle k (entry_at (store_of chronicle).moment c.args.ticket.session c.args.ticket.index (kind.End [] [])) goes.0 (Some (reply.Rows c.requires.0))) (sym c.close_query.ensures) goes.1 in
     goes_on _ _ _ _ _ _ _ _ _ c.cat.invariant went longer c.push.ensures.room
 
@@ -41,8 +41,8 @@ returns c =
     let chronicle : Chronicle = record { program = c.cat.inside.program; cap = c.cat.inside.cap; history = c.cat.inside.history.list } in
     let goes = answered_goes chronicle _ _ c.args.ticket.session c.args.ticket.index _ _ c.requires.0 c.cat.invariant found.is_open found.answer in
     let longer = c.push.ensures.entries ∙ ap (λ e. c.cat.inside.history.list ++ e ∷ [])
-        (c.session_entry-entry.ensures ∙ ap (λ k. entry_at c.cat.inside.state.moment c.args.ticket.session c.args.ticket.index k) c.end_without_parts-end.ensures
-        ∙ ap (λ m. entry_at m c.args.ticket.session c.args.ticket.index (kind.End [] [])) c.cat.invariant.sessions.moment) in
+    (c.session_entry-entry.ensures ∙ ap (λ k. entry_at c.cat.inside.state.moment c.args.ticket.session c.args.ticket.index k) c.end_without_parts-end.ensures
+    ∙ ap (λ m. entry_at m c.args.ticket.session c.args.ticket.index (kind.End [] [])) c.cat.invariant.sessions.moment) in
     let new : Chronicle = record { program = c.cat.inside.program; cap = c.cat.inside.cap; history = c.push.new.self.list } in
     subst (λ (b : Chronicle). (rows : List Row) × IsAnswered b c.args.ticket rows × MadeEntry b new (entry_at (store_of b).moment c.args.ticket.session c.args.ticket.index (kind.End [] [])) (Some (reply.Rows rows))) c.cat.view_is
     (c.requires.0, found, made chronicle _ _ goes.0 _ _ goes.1 longer)

@@ -1,4 +1,4 @@
-use Rattle.std.proofs.Common.{◌≡◌, ◌∷◌, ◌++◌, [], Some, Err, sym, ap, ◌∙◌, subst, arith}
+use Rattle.std.proofs.Common.{◌∷◌, ◌++◌, [], Some, Err, sym, ap, ◌∙◌, subst, arith}
 use Rattle.tt_history.specs.declared.history.EntryKind.TheVariants as kind
 use Rattle.tt_history.specs.declared.history.Told.TheVariants as told
 use Rattle.tt_history.specs.declared.reply.Refusal.TheVariants as refusal
@@ -30,8 +30,8 @@ invariant_of-cat c =
     let chronicle : Chronicle = record { program = c.cat.inside.program; cap = c.cat.inside.cap; history = c.cat.inside.history.list } in
     let goes = text_refused chronicle _ _ c.args.session c.args.index c.args.place c.cat.invariant next in
     let longer = c.push.ensures.entries ∙ ap (λ e. c.cat.inside.history.list ++ e ∷ [])
-        (c.session_entry-entry.ensures ∙ ap (λ n. entry_at c.cat.inside.state.moment c.args.session c.args.index (kind.Start (told.Refused n))) c.number.ensures
-        ∙ ap (λ m. entry_at m c.args.session c.args.index (kind.Start (told.Refused 1))) c.cat.invariant.sessions.moment) in
+    (c.session_entry-entry.ensures ∙ ap (λ n. entry_at c.cat.inside.state.moment c.args.session c.args.index (kind.Start (told.Refused n))) c.number.ensures
+    ∙ ap (λ m. entry_at m c.args.session c.args.index (kind.Start (told.Refused 1))) c.cat.invariant.sessions.moment) in
     let went = subst (λ (k : Kept). GoesOn chronicle k (entry_at (store_of chronicle).moment c.args.session c.args.index (kind.Start (told.Refused 1))) goes.0 (Some (reply.Refused (refusal.Syntax c.args.place)))) (sym c.end_statement.ensures) goes.1 in
     goes_on _ _ _ _ _ _ _ _ _ c.cat.invariant went longer c.push.ensures.room
 
@@ -41,8 +41,8 @@ returns-clause-entry c =
     let chronicle : Chronicle = record { program = c.cat.inside.program; cap = c.cat.inside.cap; history = c.cat.inside.history.list } in
     let goes = text_refused chronicle _ _ c.args.session c.args.index c.args.place c.cat.invariant next in
     let longer = c.push.ensures.entries ∙ ap (λ e. c.cat.inside.history.list ++ e ∷ [])
-        (c.session_entry-entry.ensures ∙ ap (λ n. entry_at c.cat.inside.state.moment c.args.session c.args.index (kind.Start (told.Refused n))) c.number.ensures
-        ∙ ap (λ m. entry_at m c.args.session c.args.index (kind.Start (told.Refused 1))) c.cat.invariant.sessions.moment) in
+    (c.session_entry-entry.ensures ∙ ap (λ n. entry_at c.cat.inside.state.moment c.args.session c.args.index (kind.Start (told.Refused n))) c.number.ensures
+    ∙ ap (λ m. entry_at m c.args.session c.args.index (kind.Start (told.Refused 1))) c.cat.invariant.sessions.moment) in
     let new : Chronicle = record { program = c.cat.inside.program; cap = c.cat.inside.cap; history = c.push.new.self.list } in
     subst (λ (b : Chronicle). MadeEntry b new (entry_at (store_of b).moment c.args.session c.args.index (kind.Start (told.Refused 1))) (Some (reply.Refused (refusal.Syntax c.args.place)))) c.cat.view_is
     (made chronicle _ _ goes.0 _ _ goes.1 longer)
