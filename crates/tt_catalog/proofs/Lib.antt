@@ -1,3 +1,4 @@
 pub mod Ended
 pub mod Filters
+pub mod OneTable
 pub mod Refused
