@@ -56,7 +56,7 @@ no_head : (xs : List ℕ) → option_map refusal.LockHeld (head_of xs) ≡ None 
 no_head [] e = refl
 no_head (x ∷ xs) e = absurd (none-some (refusal.LockHeld x) (sym e))
 
-exclusive_is_mark : (table : ℕ) (marks : List PlainMark) → list_any (is_exclusive_on table) marks ≡ true → list_any (λ (mark : PlainMark). mark.table == table) marks ≡ true
+pub exclusive_is_mark : (table : ℕ) (marks : List PlainMark) → list_any (is_exclusive_on table) marks ≡ true → list_any (λ (mark : PlainMark). mark.table == table) marks ≡ true
 exclusive_is_mark table [] e = e
 exclusive_is_mark table (mark ∷ marks) e = elim (or_cases (is_exclusive_on table mark) (list_any (is_exclusive_on table) marks) e) [
   | inl h ↦ rw (and_parts (mark.table == table) mark.exclusive h).0 refl
@@ -105,7 +105,7 @@ module _ (carried : Carried) (asked : Asked) (due : IsDue carried asked) (guarde
 
     -- ---- TRUNCATE
 
-    nobody_holds : (name : TableName) (table : PlainTable) → request_asked asked ≡ Defines (Truncates name) → table_asked asked name ≡ Some table → others_with (has_mark table.number) asked.store asked.session ≡ []
+    pub nobody_holds : (name : TableName) (table : PlainTable) → request_asked asked ≡ Defines (Truncates name) → table_asked asked name ≡ Some table → others_with (has_mark table.number) asked.store asked.session ≡ []
     nobody_holds name table e there =
         sym (ap (if_there (λ (t : PlainTable). others_with (has_mark t.number) asked.store asked.session)) there)
         ∙ sym (ap (holders_asked asked) e) ∙ no_head (holders_asked asked (request_asked asked)) free.held
@@ -146,7 +146,7 @@ module _ (carried : Carried) (asked : Asked) (due : IsDue carried asked) (guarde
   -- ---- the entry
 
   -- in a transaction a commit comes first
-  none_open : (open_now : Bool) → is_same_event event.Define (if open_now then event.Commit else event.Define) ≡ true → open_now ≡ false
+  pub none_open : (open_now : Bool) → is_same_event event.Define (if open_now then event.Commit else event.Define) ≡ true → open_now ≡ false
   none_open true e = absurd (false≢true e)
   none_open false e = refl
 

@@ -154,7 +154,7 @@ module _ (carried : Carried) (asked : Asked) (due : IsDue carried asked) (guarde
     target =
         (subst (λ (t : Option (ℕ × List Row)). Every (IsIsolatedTarget asked.store state) (option_to_list t)) of_target.target ((own_guarded carried asked due guarded).isolated.target seen running)).0
 
-    from_one : 1 ≤ table
+    pub from_one : 1 ≤ table
     from_one =
         (subst (λ (t : Option (ℕ × List Row)). Every (AreRowsOf (length asked.store.tables)) (option_to_list t)) of_target.target ((state_sound carried asked due).running seen running).target).0.0
 
@@ -168,7 +168,7 @@ module _ (carried : Carried) (asked : Asked) (due : IsDue carried asked) (guarde
         among_on removed of_target.rows (changed_rows (current_rows t) found) of_target.is_seen.0
         (subst (AreAmong of_target.rows) (ap (λ (n : ℕ). changed_rows (current_rows t) (pending_of state n)) numbered ∙ ap (changed_rows (current_rows t)) e) among)
 
-    exclusive_now : removed ≢ [] → list_any (is_exclusive_on table) state.marks ≡ true
+    pub exclusive_now : removed ≢ [] → list_any (is_exclusive_on table) state.marks ≡ true
     exclusive_now some = target.exclusive (some_seen removed of_target.rows of_target.is_seen.0 some)
 
     rests_after : (found : Option PlainPending) → pending_of state table ≡ found → Rests asked.store state.marks (after found)
@@ -190,7 +190,7 @@ module _ (carried : Carried) (asked : Asked) (due : IsDue carried asked) (guarde
     abbrev pending : PlainPending
     pending = pending_after state table removed added
 
-    rests_now : Rests asked.store state.marks pending
+    pub rests_now : Rests asked.store state.marks pending
     rests_now = rests_after (pending_of state table) refl
 
     kept_keeps : (facts : EntryFacts) (reply : Reply) → KeepsAll (kept asked pending table facts reply)

@@ -122,7 +122,7 @@ pub record KeepsGuards (store : Plain) (effect : Effect) : Type 0 where
   pub own : (session : ℕ) (new : PlainSession) → effect.session ≡ Some (session, new) → (next : Plain) → next.tables ≡ fold changed_table store.tables effect.tables → IsGuarded next new
   pub others : (other : ℕ) (state : PlainSession) → slice_get store.sessions other ≡ Some state → ((new : PlainSession) → effect.session ≡ Some (other, new) → ⊥) → Every (Spares store.tables state) effect.tables
 
-set_other : {A : Type 0} (xs : List A) (place : ℕ) (x : A) (k : ℕ) (y : A) → slice_get (slice_set xs place x) k ≡ Some y → ((k ≡ place) × (y ≡ x)) ⊎ ((k ≡ place → ⊥) × (slice_get xs k ≡ Some y))
+pub set_other : {A : Type 0} (xs : List A) (place : ℕ) (x : A) (k : ℕ) (y : A) → slice_get (slice_set xs place x) k ≡ Some y → ((k ≡ place) × (y ≡ x)) ⊎ ((k ≡ place → ⊥) × (slice_get xs k ≡ Some y))
 set_other [] place x k y e = absurd (none-some y e)
 set_other (z ∷ xs) zero x zero y e = inl (refl, sym (same_Some x y e))
 set_other (z ∷ xs) zero x (suc k) y e = inr ((λ f. absurd (omega (arith, f))), e)
