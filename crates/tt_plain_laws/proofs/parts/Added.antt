@@ -1,24 +1,24 @@
 -- Parts that an entry adds: their numbers are new, and they hold just the rows that the entry gives.
 use Rattle.std.specs.List.{range_with_len}
-use Rattle.std.specs.Prelude.{Bool, List, None, Option, Some, [], false, length, map, option_map, refl, slice_get, sum_by, true, unwrap_or, ℕ, ◌++◌, ◌+◌, ◌-◌, ◌<◌, ◌==◌, ◌∷◌, ◌≡◌, ◌≤◌}
-use Rattle.std.proofs.Common.{ap, arith, inl, inr, length-append, subst, suc, sym, zero, ◌∙◌, ◌⊎◌}
+use Rattle.std.specs.Prelude.{List, Some, [], length, map, option_map, refl, slice_get, true, ℕ, ◌++◌, ◌+◌, ◌-◌, ◌<◌, ◌==◌, ◌∷◌, ◌≡◌, ◌≤◌}
+use Rattle.std.proofs.Common.{ap, arith, inl, inr, length-append, suc, sym, zero, ◌∙◌}
 use Rattle.std.proofs.lemmas.Bool.{cases_order, eqb-true, false≢true, or_cases}
 use Rattle.std.proofs.lemmas.List.{length-map}
 use Rattle.std.proofs.lemmas.List.Sums.{sum_by-cons}
-use Rattle.std.proofs.lemmas.Option.{none-some, slice_get-map}
+use Rattle.std.proofs.lemmas.Option.{slice_get-map}
 use Rattle.tt_history.specs.declared.history.Added.{Added}
 use Rattle.tt_layout.specs.Numbers.{has}
 use Rattle.tt_plain.proofs.law.change.TallyChanges.{next_numbers}
 use Rattle.tt_plain.specs.declared.tally.Tally.{Tally}
 use Rattle.tt_plain.specs.declared.tally.TallyPart.{TallyPart}
-use Rattle.tt_plain.specs.history.Contents.{pieces_of_lengths, rows_numbered, rows_of_parts}
+use Rattle.tt_plain.specs.history.Contents.{pieces_of_lengths, rows_numbered}
 use Rattle.tt_plain.specs.tally.Changes.{part_added}
 use Rattle.tt_plain.specs.tally.Parts.{are_next_parts, numbers_added, part_numbered, rows_in_added, rows_of_part}
 use Rattle.tt_value.specs.declared.value.Row.{Row}
 use Rattle.tt_value.specs.values.Bags.{copies_of}
 use Rattle.tt_plain_laws.proofs.parts.Backed.{Measured}
 use Rattle.tt_plain_laws.proofs.parts.Contents.{Known, append_get, behind_get, length-pieces, piece_lengths, pieces_hold, same_numbered, total}
-use Rattle.tt_plain_laws.proofs.parts.Numbers.{Outside, copies_in, is_false, not_both}
+use Rattle.tt_plain_laws.proofs.parts.Numbers.{Outside, copies_in, is_false}
 
 abbrev pub lengths_added : List Added → List ℕ
 lengths_added added = map (λ (part : Added). part.rows) added

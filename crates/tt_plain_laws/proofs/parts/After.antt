@@ -1,8 +1,7 @@
 -- The current rows and parts of each table, after what is pending of some tables has begun.
-use Rattle.std.specs.List.{last_or}
-use Rattle.std.specs.Prelude.{Bool, List, None, Option, Some, [], false, find, flat_map, fold, if◌then◌else◌, length, map, option_map, refl, slice_get, slice_set, true, unwrap_or, ℕ, ⊤, ◌&&◌, ◌++◌, ◌+◌, ◌-◌, ◌<◌, ◌==◌, ◌∷◌, ◌≡◌, ◌≤◌}
-use Rattle.std.proofs.Common.{ap, append_assoc, arith, cond, inl, inr, length-set, subst, suc, sym, zero, ◌∙◌, ◌⊎◌}
-use Rattle.std.proofs.lemmas.Bool.{and_parts, eq-eqb, eqb-true, false≢true}
+use Rattle.std.specs.Prelude.{Bool, List, None, Option, Some, [], false, find, flat_map, fold, if◌then◌else◌, length, option_map, refl, slice_get, slice_set, true, unwrap_or, ℕ, ◌&&◌, ◌++◌, ◌-◌, ◌<◌, ◌==◌, ◌∷◌, ◌≡◌, ◌≤◌}
+use Rattle.std.proofs.Common.{ap, append_assoc, arith, length-set, subst, suc, sym, zero, ◌∙◌}
+use Rattle.std.proofs.lemmas.Bool.{eq-eqb, false≢true}
 use Rattle.std.proofs.lemmas.Bool.Decides.{nat_tests}
 use Rattle.std.proofs.lemmas.Option.{none-some, same_Some}
 use Rattle.tt_layout.proofs.NetLaws.{unchanged}
@@ -16,12 +15,12 @@ use Rattle.tt_plain.specs.declared.tally.Tally.{Tally}
 use Rattle.tt_plain.specs.declared.tally.TallyPending.{TallyPending}
 use Rattle.tt_plain.specs.effect.Apply.{changed_table, with_version}
 use Rattle.tt_plain.specs.effect.Commit.{version_begun, version_committed}
-use Rattle.tt_plain.specs.effect.Effect.{NewVersion, TableChange}
+use Rattle.tt_plain.specs.effect.Effect.{TableChange}
 use Rattle.tt_plain.specs.effect.End.{nothing_pending}
 use Rattle.tt_plain.specs.law.Lists.{EachTwo, Every}
 use Rattle.tt_plain.specs.opening.Seen.{rows_with}
 use Rattle.tt_plain.specs.stored.Tables.{current_rows, table_numbered}
-use Rattle.tt_plain.specs.tally.Changes.{BeginsLayout, TallyChange, changed_tally, with_layout}
+use Rattle.tt_plain.specs.tally.Changes.{TallyChange, changed_tally, with_layout}
 use Rattle.tt_plain.specs.tally.Layouts.{current_parts}
 use Rattle.tt_plain.specs.tally.Pending.{layout_begun, no_lists}
 use Rattle.tt_value.proofs.values.Bags.{bag_plus-nil}

@@ -1,15 +1,15 @@
 -- What is so of the contents and the store after each entry, and what it says of the bags.
 use Rattle.std.specs.List.{AllZip, enumerate_from, last_or}
-use Rattle.std.specs.Prelude.{All, Bool, List, None, Option, Result, Some, [], false, filter, find, length, nat_le, option_map, refl, slice_get, true, unwrap_or, ℕ, ◌++◌, ◌+◌, ◌-◌, ◌<◌, ◌==◌, ◌∷◌, ◌≡◌, ◌≤◌}
-use Rattle.std.proofs.Common.{ap, arith, cond, subst, suc, sym, zero, ◌∙◌}
+use Rattle.std.specs.Prelude.{All, Bool, List, None, Option, Result, Some, [], false, filter, find, length, nat_le, option_map, refl, slice_get, true, unwrap_or, ℕ, ◌+◌, ◌-◌, ◌==◌, ◌∷◌, ◌≡◌, ◌≤◌}
+use Rattle.std.proofs.Common.{ap, arith, cond, subst, suc, sym, ◌∙◌}
 use Rattle.std.proofs.lemmas.Bool.Decides.{nat_tests}
 use Rattle.std.proofs.lemmas.List.Elements.{All-cons, All-nil}
 use Rattle.std.proofs.lemmas.Option.{none-some, same_Some, slice_get_within}
-use Rattle.tt_layout.specs.Numbers.{IsAscending, changed}
+use Rattle.tt_layout.specs.Numbers.{changed}
 use Rattle.tt_layout.proofs.NetLaws.{unchanged}
 use Rattle.tt_plain.proofs.Answers.{bind_some, only_if_some}
 use Rattle.tt_plain.proofs.Tests.{same_number}
-use Rattle.tt_plain.specs.Answers.{only_if, ◌>>=◌}
+use Rattle.tt_plain.specs.Answers.{only_if}
 use Rattle.tt_plain.proofs.law.Lists.{every_at}
 use Rattle.tt_plain.proofs.law.change.Tables.{table_at}
 use Rattle.tt_plain.proofs.law.entry.Rounds.{current_parts_ascend}
@@ -26,7 +26,6 @@ use Rattle.tt_plain.specs.declared.store.PlainTable.{PlainTable}
 use Rattle.tt_plain.specs.declared.store.Version.{Version}
 use Rattle.tt_plain.specs.declared.tally.Tally.{Tally}
 use Rattle.tt_plain.specs.declared.tally.TallyPending.{TallyPending}
-use Rattle.tt_plain.specs.declared.tally.TallyPin.{TallyPin}
 use Rattle.tt_plain.specs.effect.End.{nothing_pending}
 use Rattle.tt_plain.specs.history.Contents.{rows_numbered, rows_of_parts}
 use Rattle.tt_plain.specs.law.Bag.{BagsAreFormed, Form, LayoutsForm, PinForms, PinsForm, SeenForms, pins_of, seen_in_pins}
@@ -35,14 +34,14 @@ use Rattle.tt_plain.specs.law.Lists.{Every}
 use Rattle.tt_plain.specs.law.Sound.{AreSoundLayouts, AreSoundLists, FollowFrom, IsSound, IsSoundTable}
 use Rattle.tt_plain.specs.opening.Seen.{changed_rows, pending_of, rows_with, visible_rows}
 use Rattle.tt_plain.specs.stored.Tables.{current_rows, is_begun_at, rows_at, rows_of, table_numbered}
-use Rattle.tt_plain.specs.tally.Layouts.{changed_parts, current_parts, is_pending_of, layouts_of, lists_of, parts_at, parts_seen}
+use Rattle.tt_plain.specs.tally.Layouts.{changed_parts, current_parts, is_pending_of, lists_of, parts_at, parts_seen}
 use Rattle.tt_plain.specs.tally.Parts.{part_numbered, rows_of_part}
 use Rattle.tt_plain.specs.tally.Pending.{no_lists}
 use Rattle.tt_script.specs.declared.script.Script.{Script}
 use Rattle.tt_sql.specs.declared.statement.Statement.{Statement}
 use Rattle.tt_value.proofs.values.Bags.{bag_plus-nil, minus_none}
 use Rattle.tt_value.specs.declared.value.Row.{Row}
-use Rattle.tt_value.specs.values.Bags.{IsBag, bag_minus, bag_of, bag_plus}
+use Rattle.tt_value.specs.values.Bags.{IsBag, bag_of, bag_plus}
 use Rattle.tt_plain_laws.proofs.guard.Kept.{Rests, rests_now}
 use Rattle.tt_plain_laws.proofs.parts.Balance.{Hold, IsBalanced, form_from, hold_from, lists_now, pending_now, seen_hold}
 use Rattle.tt_plain_laws.proofs.parts.Known.{AreKnown}

@@ -1,6 +1,6 @@
 -- What is pending in rows and in parts is one change: what the added parts hold and the gone ones do not was added or is gone.
-use Rattle.std.specs.Prelude.{Bool, List, None, Option, Some, [], false, length, refl, true, unwrap_or, ℕ, ◌++◌, ◌+◌, ◌-◌, ◌∷◌, ◌≡◌, ◌≢◌, ◌≤◌}
-use Rattle.std.proofs.Common.{ap, arith, inl, inr, subst, sym, ◌∙◌, ◌⊎◌}
+use Rattle.std.specs.Prelude.{List, [], length, refl, unwrap_or, ℕ, ◌++◌, ◌+◌, ◌∷◌, ◌≡◌, ◌≢◌}
+use Rattle.std.proofs.Common.{ap, arith, inl, inr, sym, ◌∙◌}
 use Rattle.std.proofs.lemmas.Bool.{false≢true}
 use Rattle.tt_layout.specs.Numbers.{IsAscending, changed, has, joined, without}
 use Rattle.tt_plain.specs.declared.store.PlainPending.{PlainPending}
@@ -19,7 +19,7 @@ use Rattle.tt_value.specs.declared.value.Row.{Row}
 use Rattle.tt_value.specs.values.Bags.{IsBag, bag_of, bag_plus, copies_of}
 use Rattle.tt_plain_laws.proofs.guard.Among.{among_to}
 use Rattle.tt_plain_laws.proofs.parts.Contents.{Known, same_contents}
-use Rattle.tt_plain_laws.proofs.parts.Numbers.{Outside, Within, copies-changed, copies-lists, copies_in, is_false, not_both, within_changed, within_joined, within_without}
+use Rattle.tt_plain_laws.proofs.parts.Numbers.{Outside, Within, copies-changed, copies-lists, copies_in, not_both, within_changed, within_joined, within_without}
 
 -- ---- parts that hold rows
 

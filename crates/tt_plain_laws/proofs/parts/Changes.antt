@@ -1,6 +1,6 @@
 -- The end of each query and each change keeps the bags.
 use Rattle.std.specs.List.{AllZip}
-use Rattle.std.specs.Prelude.{Bool, List, None, Option, Some, [], false, filter, flat_map, if◌then◌else◌, length, map, option_to_list, refl, true, unwrap_or, ℕ, ◌&&◌, ◌++◌, ◌+◌, ◌==◌, ◌∷◌, ◌≡◌, ◌≢◌}
+use Rattle.std.specs.Prelude.{Bool, List, None, Option, Some, [], false, filter, flat_map, if◌then◌else◌, length, map, option_to_list, refl, true, unwrap_or, ℕ, ◌&&◌, ◌++◌, ◌+◌, ◌==◌, ◌∷◌, ◌≡◌}
 use Rattle.std.proofs.Common.{ap, arith, subst, sym, ◌∙◌}
 use Rattle.std.proofs.lemmas.Bool.{and_parts, false≢true}
 use Rattle.std.proofs.lemmas.Option.{none-some, same_Some}
@@ -12,10 +12,9 @@ use Rattle.tt_plain.proofs.law.session.Alone.{IsDue, IsSaid, state_sound}
 use Rattle.tt_plain.specs.Answers.{◌>>=◌}
 use Rattle.tt_plain.specs.asked.Asked.{Asked, request_asked, state_asked}
 use Rattle.tt_plain.specs.asked.Carried.{Carried}
-use Rattle.tt_plain.specs.asked.Request.{Reads, Request, Writes, request_of}
+use Rattle.tt_plain.specs.asked.Request.{Reads, Request, Writes}
 use Rattle.tt_plain.specs.asked.Turns.{statement_read}
 use Rattle.tt_plain.specs.declared.store.PlainOpen.{PlainOpen}
-use Rattle.tt_plain.specs.declared.store.PlainSession.{PlainSession}
 use Rattle.tt_plain.specs.effect.Apply.{applied}
 use Rattle.tt_plain.specs.effect.Effect.{Effect}
 use Rattle.tt_plain.specs.effect.End.{answered, are_facts_of, changed_by, end_effect, ended_as, may_remove}
@@ -42,7 +41,7 @@ use Rattle.tt_plain_laws.proofs.parts.Backed.{AreBacked}
 use Rattle.tt_plain_laws.proofs.parts.Contents.{Known}
 use Rattle.tt_plain_laws.proofs.parts.Cuts.{added_cut, nil_of, one_pinned, replaced_cut, some_all}
 use Rattle.tt_plain_laws.proofs.parts.Ends.{IsCut, changed_backs, removable}
-use Rattle.tt_plain_laws.proofs.parts.Sessions.{BacksWith, answered_backs}
+use Rattle.tt_plain_laws.proofs.parts.Sessions.{answered_backs}
 use Rattle.tt_plain_laws.proofs.parts.Starts.{seen_known}
 use Rattle.tt_plain_laws.specs.Guarded.{AreGuarded}
 use Rattle.tt_sql.specs.declared.change.Dml.TheVariants as dml

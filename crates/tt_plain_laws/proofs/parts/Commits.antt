@@ -1,15 +1,14 @@
 -- Commits and rollbacks keep the bags.
-use Rattle.std.specs.Prelude.{Bool, List, None, Option, Some, [], false, filter, find, flat_map, fold, if◌then◌else◌, length, map, nat_lt, not, refl, slice_get, true, unwrap_or, ℕ, ◌&&◌, ◌++◌, ◌+◌, ◌-◌, ◌<◌, ◌==◌, ◌^◌, ◌∷◌, ◌≡◌, ◌≢◌, ◌≤◌}
-use Rattle.std.proofs.Common.{ap, arith, cond, inl, inr, length-append, subst, sym, ◌∙◌, ◌⊎◌}
-use Rattle.std.proofs.lemmas.Bool.{and_parts, eq-eqb, eqb-true, false≢true, ltb-true, or_cases}
-use Rattle.std.proofs.lemmas.List.{length-map}
-use Rattle.std.proofs.lemmas.Option.{none-some, same_Some, slice_get_within}
+use Rattle.std.specs.Prelude.{Bool, List, None, Option, Some, [], false, filter, find, flat_map, fold, length, nat_lt, not, refl, slice_get, true, unwrap_or, ℕ, ◌&&◌, ◌++◌, ◌+◌, ◌-◌, ◌<◌, ◌==◌, ◌∷◌, ◌≡◌, ◌≢◌, ◌≤◌}
+use Rattle.std.proofs.Common.{ap, arith, cond, inl, inr, length-append, subst, sym, ◌∙◌}
+use Rattle.std.proofs.lemmas.Bool.{and_parts, eqb-true, ltb-true, or_cases}
+use Rattle.std.proofs.lemmas.Option.{same_Some}
 use Rattle.tt_history.specs.declared.history.Told.{Told}
 use Rattle.tt_history.specs.declared.reply.Reply.{Reply}
-use Rattle.tt_layout.specs.Numbers.{changed, has}
+use Rattle.tt_layout.specs.Numbers.{changed}
 use Rattle.tt_plain.proofs.Tests.{same_number}
 use Rattle.tt_plain.proofs.law.Gives.{Gives}
-use Rattle.tt_plain.proofs.law.Lists.{every-append, every-filter, every_at, every_on, two-filter}
+use Rattle.tt_plain.proofs.law.Lists.{every-append, every-filter, every_at, every_on}
 use Rattle.tt_plain.proofs.law.Turns.{due_gives}
 use Rattle.tt_plain.proofs.law.change.Tables.{table_at}
 use Rattle.tt_plain.proofs.law.session.Alone.{IsDue, state_sound}
@@ -19,7 +18,6 @@ use Rattle.tt_plain.specs.asked.Asked.{Asked, own_point, request_asked, state_as
 use Rattle.tt_plain.specs.asked.Carried.{Carried}
 use Rattle.tt_plain.specs.asked.Request.{Commits, Defines, Request}
 use Rattle.tt_plain.specs.declared.store.Plain.{Plain}
-use Rattle.tt_plain.specs.declared.store.PlainMark.{PlainMark}
 use Rattle.tt_plain.specs.declared.store.PlainPending.{PlainPending}
 use Rattle.tt_plain.specs.declared.store.PlainSession.{PlainSession}
 use Rattle.tt_plain.specs.declared.store.PlainTable.{PlainTable}
@@ -33,26 +31,23 @@ use Rattle.tt_plain.specs.effect.Effect.{Effect}
 use Rattle.tt_plain.specs.effect.End.{nothing_pending}
 use Rattle.tt_plain.specs.effect.Ending.{own_point_now, session_done}
 use Rattle.tt_plain.specs.effect.Rollback.{rollback_effect, rolled_back}
-use Rattle.tt_plain.specs.history.Contents.{rows_numbered}
-use Rattle.tt_plain.specs.law.Bag.{pins_of}
 use Rattle.tt_plain.specs.law.Changes.{IsSoundEffect}
-use Rattle.tt_plain.specs.law.Isolated.{AreAmong}
 use Rattle.tt_plain.specs.law.Lists.{EachTwo, Every}
 use Rattle.tt_plain.specs.law.Sound.{AreSoundLists, IsSound, IsSoundPending}
 use Rattle.tt_plain.specs.opening.Seen.{pending_of}
 use Rattle.tt_plain.specs.stored.Points.{no_point_yet}
 use Rattle.tt_plain.specs.stored.Sessions.{has_exclusive_mark}
-use Rattle.tt_plain.specs.stored.Tables.{current_rows, table_numbered}
+use Rattle.tt_plain.specs.stored.Tables.{current_rows}
 use Rattle.tt_plain.specs.tally.Changes.{EndsPending, TallyChange, changed_tally, stands_before}
-use Rattle.tt_plain.specs.tally.Layouts.{current_parts, is_pending_of, lists_of}
-use Rattle.tt_plain.specs.tally.Parts.{part_numbered, rows_of_part}
+use Rattle.tt_plain.specs.tally.Layouts.{current_parts, is_pending_of}
+use Rattle.tt_plain.specs.tally.Parts.{rows_of_part}
 use Rattle.tt_plain.specs.tally.Pending.{layout_begun, layouts_committed, lists_of_session, no_lists}
 use Rattle.tt_script.specs.declared.script.Script.{Script}
 use Rattle.tt_value.proofs.values.Bags.{minus_none}
 use Rattle.tt_value.specs.declared.value.Row.{Row}
 use Rattle.tt_value.specs.values.Bags.{IsBag, bag_plus}
 use Rattle.tt_plain_laws.proofs.guard.Kept.{Rests, are_numbered, rests_now}
-use Rattle.tt_plain_laws.proofs.parts.After.{AreLaid, AreRisen, Distinct, OnlyLayouts, begun_by_lists, fold_tally-append, found_for, layouts_laid, lists_key, none_for, none_laid, only_lists, pending_key, versions_risen}
+use Rattle.tt_plain_laws.proofs.parts.After.{AreLaid, Distinct, OnlyLayouts, begun_by_lists, fold_tally-append, found_for, layouts_laid, lists_key, none_for, none_laid, only_lists, pending_key, versions_risen}
 use Rattle.tt_plain_laws.proofs.parts.Backed.{AreBacked, Measured, found_passes, lists_sound, pending_among}
 use Rattle.tt_plain_laws.proofs.parts.Balance.{IsBalanced, lists_now, more_balanced, none_balanced, pending_now}
 use Rattle.tt_plain_laws.proofs.parts.Contents.{Known, known_more, same_numbered}

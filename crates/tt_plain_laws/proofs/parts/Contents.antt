@@ -1,7 +1,7 @@
 -- Contents that grow by those of the parts that an entry adds.
 use Rattle.std.specs.List.{range_with_len}
-use Rattle.std.specs.Prelude.{List, None, Option, Some, [], drop, length, map, refl, slice_get, take, true, unwrap_or, ℕ, ◌++◌, ◌+◌, ◌-◌, ◌<◌, ◌∷◌, ◌≡◌, ◌≤◌}
-use Rattle.std.proofs.Common.{ap, append_assoc, arith, length-append, subst, suc, sym, zero, ◌∙◌}
+use Rattle.std.specs.Prelude.{List, Option, Some, [], drop, length, refl, slice_get, take, true, unwrap_or, ℕ, ◌++◌, ◌+◌, ◌-◌, ◌<◌, ◌∷◌, ◌≡◌, ◌≤◌}
+use Rattle.std.proofs.Common.{ap, append_assoc, arith, length-append, suc, sym, zero, ◌∙◌}
 use Rattle.std.proofs.lemmas.List.{length-drop, length-take-le, take-append-drop}
 use Rattle.std.proofs.lemmas.Option.{none-some, same_Some}
 use Rattle.tt_layout.specs.Numbers.{has}

@@ -1,33 +1,27 @@
 -- What each change gives as the rows of its parts is a cut: the parts that are gone have the rows that it takes, and no other has one.
 use Rattle.std.specs.List.{AllZip, list_any}
-use Rattle.std.specs.Prelude.{Bool, List, None, Option, Some, [], false, filter, find, flat_map, if◌then◌else◌, length, map, not, option_and_then, option_map, option_to_list, refl, slice_get, true, unwrap_or, ℕ, ⊤, ◌&&◌, ◌++◌, ◌+◌, ◌-◌, ◌==◌, ◌∷◌, ◌≡◌, ◌≢◌, ◌≤◌}
+use Rattle.std.specs.Prelude.{Bool, List, None, Option, Some, [], false, filter, flat_map, length, map, option_and_then, option_map, option_to_list, refl, true, ℕ, ◌&&◌, ◌++◌, ◌+◌, ◌==◌, ◌∷◌, ◌≡◌, ◌≢◌}
 use Rattle.std.proofs.Common.{ap, arith, cond, length-append, subst, sym, ◌∙◌}
-use Rattle.std.proofs.lemmas.Bool.{and_parts, eq-eqb, false≢true}
+use Rattle.std.proofs.lemmas.Bool.{eq-eqb, false≢true}
 use Rattle.std.proofs.lemmas.List.Sums.{sum_by-cons}
 use Rattle.std.proofs.lemmas.Option.{none-some, same_Some}
 use Rattle.tt_history.specs.declared.history.Added.{Added}
-use Rattle.tt_layout.specs.Numbers.{has}
-use Rattle.tt_plain.proofs.Tests.{same_number}
 use Rattle.tt_plain.proofs.law.Lists.{every_kept}
 use Rattle.tt_plain.specs.declared.tally.Tally.{Tally}
 use Rattle.tt_plain.specs.declared.tally.TallyPin.{TallyPin}
-use Rattle.tt_plain.specs.history.Contents.{row_deleted, row_updated, rows_numbered, rows_of_parts}
-use Rattle.tt_plain.specs.history.TrueFacts.{parts_pinned, parts_touched}
+use Rattle.tt_plain.specs.history.Contents.{rows_numbered, rows_of_parts}
+use Rattle.tt_plain.specs.history.TrueFacts.{parts_pinned}
 use Rattle.tt_plain.specs.law.Bag.{PinForms, pins_of}
 use Rattle.tt_plain.specs.law.Lists.{Every}
 use Rattle.tt_plain.specs.tally.Parts.{part_numbered, rows_in_added, rows_in_parts, rows_of_part}
-use Rattle.tt_sql.specs.declared.change.Update.{Update}
-use Rattle.tt_sql.specs.meaning.Changes.{BadData, Changed, Changes, NullInRow, OutOfRange, replaces, stores, updated_row}
 use Rattle.tt_sql.specs.meaning.Queries.{all_some}
 use Rattle.tt_value.proofs.values.Bags.{copies_of-append, copies_of-cons, one_if, same_itself}
 use Rattle.tt_value.specs.declared.value.Row.{Row}
-use Rattle.tt_value.specs.declared.value.Schema.{Schema}
 use Rattle.tt_value.specs.values.Bags.{copies_of}
-use Rattle.tt_plain_laws.proofs.parts.Added.{lengths_added, total_added}
+use Rattle.tt_plain_laws.proofs.parts.Added.{total_added}
 use Rattle.tt_plain_laws.proofs.parts.Backed.{Measured}
 use Rattle.tt_plain_laws.proofs.parts.Balance.{Hold, hold_from}
-use Rattle.tt_plain_laws.proofs.parts.Commits.{none_or}
-use Rattle.tt_plain_laws.proofs.parts.Contents.{Known, total}
+use Rattle.tt_plain_laws.proofs.parts.Contents.{Known}
 use Rattle.tt_plain_laws.proofs.parts.Ends.{IsCut}
 use Rattle.tt_plain_laws.proofs.parts.Numbers.{copies_in, has_itself, has_more}
 use Rattle.tt_plain_laws.proofs.parts.Sums.{copies-replaced, is_touched, length-replaced, replaced, same_flat, same_flat_length, same_length, same_taken, touched_hold}

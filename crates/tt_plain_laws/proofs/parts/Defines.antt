@@ -1,23 +1,21 @@
 -- Definitions keep the bags.
-use Rattle.std.specs.Prelude.{Bool, List, None, Option, Some, [], false, filter, find, fold, if◌then◌else◌, length, map, not, option_map, option_to_list, refl, slice_get, true, unwrap_or, ℕ, ◌++◌, ◌+◌, ◌-◌, ◌<◌, ◌==◌, ◌∷◌, ◌≡◌, ◌≢◌, ◌≤◌}
-use Rattle.std.proofs.Common.{ap, arith, cond, inl, inr, length-set, subst, suc, sym, zero, ◌∙◌, ◌⊎◌}
+use Rattle.std.specs.Prelude.{Bool, List, None, Option, Some, [], false, filter, find, fold, if◌then◌else◌, length, map, option_map, option_to_list, refl, slice_get, true, unwrap_or, ℕ, ◌++◌, ◌+◌, ◌-◌, ◌==◌, ◌∷◌, ◌≡◌, ◌≢◌, ◌≤◌}
+use Rattle.std.proofs.Common.{ap, arith, cond, inl, inr, subst, sym, ◌∙◌, ◌⊎◌}
 use Rattle.std.proofs.lemmas.Bool.{cases_order, eq-eqb, false≢true}
 use Rattle.std.proofs.lemmas.List.{length-map, length_push}
 use Rattle.std.proofs.lemmas.Option.{none-some, same_Some, slice_get_within}
 use Rattle.tt_history.specs.declared.history.Told.{Told}
-use Rattle.tt_layout.specs.Numbers.{has}
 use Rattle.tt_plain.proofs.Tests.{same_number}
 use Rattle.tt_plain.proofs.law.Free.{IsFree, is_free}
 use Rattle.tt_plain.proofs.law.Gives.{Gives, gives_at, gives_bind, gives_map}
-use Rattle.tt_plain.proofs.law.Lists.{every-append, every_at, every_on}
+use Rattle.tt_plain.proofs.law.Lists.{every_at, every_on}
 use Rattle.tt_plain.proofs.law.Past.{keeps_past}
 use Rattle.tt_plain.proofs.law.Turns.{due_gives}
 use Rattle.tt_plain.proofs.law.change.Apart.{get_unmap}
 use Rattle.tt_plain.proofs.law.change.Applied.{effects_keep_sound}
 use Rattle.tt_plain.proofs.law.session.Alone.{IsDue, IsSaid, state_sound}
 use Rattle.tt_plain.proofs.law.session.Marks.{others_free}
-use Rattle.tt_plain.proofs.law.session.Views.{every_found, is_table, named}
-use Rattle.tt_plain.specs.Answers.{◌>>=◌}
+use Rattle.tt_plain.proofs.law.session.Views.{named}
 use Rattle.tt_plain.specs.asked.Asked.{Asked, request_asked, state_asked, table_asked}
 use Rattle.tt_plain.specs.asked.Carried.{Carried}
 use Rattle.tt_plain.specs.asked.Event.{first_event, is_same_event}
@@ -39,21 +37,19 @@ use Rattle.tt_plain.specs.definition.Truncate.{truncate_changes}
 use Rattle.tt_plain.specs.definition.Undrop.{undrop_changes}
 use Rattle.tt_plain.specs.effect.Apply.{applied, changed_table, with_version}
 use Rattle.tt_plain.specs.effect.Define.{define_effect, defined, defined_by}
-use Rattle.tt_plain.specs.effect.Effect.{Dropped, Effect, Made, NewVersion, TableChange}
+use Rattle.tt_plain.specs.effect.Effect.{Dropped, Effect, Made, TableChange}
 use Rattle.tt_plain.specs.effect.End.{nothing_pending}
 use Rattle.tt_plain.specs.effect.Ending.{ended_with, memory_effect, own_point_now, session_done}
-use Rattle.tt_plain.specs.law.Bag.{Form}
 use Rattle.tt_plain.specs.law.Changes.{IsSoundEffect}
 use Rattle.tt_plain.specs.law.Lists.{Every}
-use Rattle.tt_plain.specs.law.Past.{KeepsPast}
-use Rattle.tt_plain.specs.law.Sound.{IsSound, IsSoundPending}
+use Rattle.tt_plain.specs.law.Sound.{IsSoundPending}
 use Rattle.tt_plain.specs.opening.Point.{sources_in}
 use Rattle.tt_plain.specs.opening.Seen.{pending_of, rows_seen}
 use Rattle.tt_plain.specs.refusal.First.{refusal_of}
 use Rattle.tt_plain.specs.refusal.NothingToUndrop.{table_to_undrop}
 use Rattle.tt_plain.specs.stored.Sessions.{has_exclusive_mark, has_mark}
 use Rattle.tt_plain.specs.stored.Tables.{current_rows}
-use Rattle.tt_plain.specs.tally.Changes.{BeginsLayout, MakesTable, TallyChange, changed_tally, with_layout}
+use Rattle.tt_plain.specs.tally.Changes.{MakesTable, TallyChange, with_layout}
 use Rattle.tt_plain.specs.tally.Layouts.{current_parts, is_pending_of, lists_of, source_parts}
 use Rattle.tt_plain.specs.tally.Pending.{no_lists}
 use Rattle.tt_sql.specs.declared.table.Change.{Change}
@@ -84,7 +80,7 @@ use Rattle.tt_plain.proofs.Tests.{none_is}
 use Rattle.tt_plain_laws.proofs.parts.Sessions.{refused_backs}
 use Rattle.tt_layout.specs.Chain as chain
 use Rattle.tt_history.specs.declared.history.Told.TheVariants as told
-use Rattle.tt_plain_laws.proofs.parts.Sessions.{Backs, alone_backs, memory_backs, told_backs}
+use Rattle.tt_plain_laws.proofs.parts.Sessions.{Backs, alone_backs, memory_backs}
 use Rattle.tt_plain_laws.proofs.parts.Step.{balanced_still, each_session, known_next, layouts_moved, pinned_other}
 use Rattle.tt_plain_laws.specs.Guarded.{AreGuarded, IsGuarded}
 use Rattle.tt_plain.specs.asked.Event as event

@@ -1,33 +1,30 @@
 -- The end of a change keeps the bags: in a transaction its parts are pending like its rows, and else they begin at once.
 use Rattle.std.specs.List.{list_all}
-use Rattle.std.specs.Prelude.{Bool, List, None, Option, Some, [], false, filter, find, flat_map, fold, if◌then◌else◌, length, map, nat_lt, not, option_map, option_to_list, refl, slice_get, true, unwrap_or, ℕ, ◌&&◌, ◌++◌, ◌+◌, ◌-◌, ◌<◌, ◌==◌, ◌∷◌, ◌≡◌, ◌≢◌, ◌≤◌}
-use Rattle.std.proofs.Common.{ap, arith, cond, inl, inr, subst, sym, ◌∙◌, ◌⊎◌}
+use Rattle.std.specs.Prelude.{Bool, List, None, Option, Some, [], false, filter, find, flat_map, fold, if◌then◌else◌, length, nat_lt, option_to_list, refl, slice_get, true, unwrap_or, ℕ, ◌&&◌, ◌++◌, ◌+◌, ◌==◌, ◌∷◌, ◌≡◌, ◌≢◌, ◌≤◌}
+use Rattle.std.proofs.Common.{ap, arith, inl, inr, subst, sym, ◌∙◌, ◌⊎◌}
 use Rattle.std.proofs.lemmas.Bool.{and_parts, cases_order, eq-eqb, false≢true, or_cases}
 use Rattle.std.proofs.lemmas.Option.{none-some, same_Some}
 use Rattle.tt_history.specs.declared.history.Added.{Added}
 use Rattle.tt_history.specs.declared.reply.Reply.{Reply}
-use Rattle.tt_layout.specs.Numbers.{IsAscending, changed, has, joined, without}
+use Rattle.tt_layout.specs.Numbers.{IsAscending, changed, has, without}
 use Rattle.tt_plain.proofs.Tests.{same_number}
-use Rattle.tt_plain.proofs.law.Lists.{every-append, every-filter, every_at}
+use Rattle.tt_plain.proofs.law.Lists.{every-append, every-filter}
 use Rattle.tt_plain.proofs.law.entry.Rounds.{added_ascend, ascends}
 use Rattle.tt_plain.proofs.law.session.Alone.{IsDue, state_sound}
 use Rattle.tt_plain.proofs.law.session.Versions.{committed_version, versions_sound}
-use Rattle.tt_plain.specs.asked.Asked.{Asked, request_asked, state_asked}
+use Rattle.tt_plain.specs.asked.Asked.{Asked, state_asked}
 use Rattle.tt_plain.specs.asked.Carried.{Carried}
-use Rattle.tt_plain.specs.declared.store.Plain.{Plain}
 use Rattle.tt_plain.specs.declared.store.PlainOpen.{PlainOpen}
 use Rattle.tt_plain.specs.declared.store.PlainPending.{PlainPending}
 use Rattle.tt_plain.specs.declared.store.PlainSession.{PlainSession}
-use Rattle.tt_plain.specs.declared.store.PlainTable.{PlainTable}
 use Rattle.tt_plain.specs.declared.tally.Tally.{Tally}
 use Rattle.tt_plain.specs.declared.tally.TallyPending.{TallyPending}
 use Rattle.tt_plain.specs.declared.tally.TallyPin.{TallyPin}
 use Rattle.tt_plain.specs.effect.Apply.{applied, changed_table}
 use Rattle.tt_plain.specs.effect.Commit.{version_committed}
 use Rattle.tt_plain.specs.effect.Effect.{Effect, TableChange}
-use Rattle.tt_plain.specs.effect.End.{EntryFacts, are_facts_of, changed_by, committed_alone, count_reply, kept, may_remove, nothing_pending, pending_after, with_pending}
-use Rattle.tt_plain.specs.effect.Ending.{own_point_now, session_done}
-use Rattle.tt_plain.specs.law.Bag.{pins_of}
+use Rattle.tt_plain.specs.effect.End.{are_facts_of, changed_by, committed_alone, count_reply, kept, may_remove, nothing_pending, pending_after, with_pending}
+use Rattle.tt_plain.specs.effect.Ending.{session_done}
 use Rattle.tt_plain.specs.law.Changes.{IsSoundEffect}
 use Rattle.tt_plain.specs.law.Isolated.{AreAmong}
 use Rattle.tt_plain.specs.law.Lists.{Every}
@@ -36,10 +33,10 @@ use Rattle.tt_plain.specs.opening.Marks.{marks_exclusively}
 use Rattle.tt_plain.specs.opening.Seen.{pending_of}
 use Rattle.tt_plain.specs.stored.Sessions.{has_exclusive_mark}
 use Rattle.tt_plain.specs.stored.Tables.{current_rows, table_numbered}
-use Rattle.tt_plain.specs.tally.Changes.{AddsParts, Keeps, TallyChange, Unpins, changed_tally, part_added, stands_before, with_lists}
+use Rattle.tt_plain.specs.tally.Changes.{AddsParts, TallyChange, Unpins, changed_tally, stands_before, with_lists}
 use Rattle.tt_plain.specs.tally.Layouts.{current_parts, is_ascending, is_pending_of, lists_of, parts_seen}
 use Rattle.tt_plain.specs.tally.Parts.{are_next_parts, numbers_added, rows_in_added, rows_in_parts}
-use Rattle.tt_plain.specs.tally.Pending.{changed_lists, layout_begun, lists_after, no_lists}
+use Rattle.tt_plain.specs.tally.Pending.{layout_begun, lists_after, no_lists}
 use Rattle.tt_sql.specs.declared.change.Dml.{Dml}
 use Rattle.tt_value.proofs.values.Bags.{copies_of-bag_plus, minus_none}
 use Rattle.tt_value.specs.declared.value.Row.{Row}
@@ -57,8 +54,7 @@ use Rattle.tt_plain_laws.proofs.parts.Known.{KnownChange, known_current, known_l
 use Rattle.tt_plain_laws.proofs.parts.Moved.{IsMoved, moved_backed}
 use Rattle.tt_plain_laws.proofs.parts.Numbers.{Outside, Within, copies_in, is_false, not_both, within_changed, within_joined, within_without}
 use Rattle.tt_plain_laws.proofs.parts.Places.{key_of, lists_kept, pending_kept}
-use Rattle.tt_plain_laws.proofs.parts.Sessions.{BacksWith}
-use Rattle.tt_plain_laws.proofs.parts.Step.{IsSame, balanced_still, each_session, known_next, layouts_still, longer, pinned_other}
+use Rattle.tt_plain_laws.proofs.parts.Step.{balanced_still, each_session, known_next, layouts_still, pinned_other}
 use Rattle.tt_plain_laws.proofs.parts.Views.{pins_other}
 use Rattle.tt_plain_laws.specs.Guarded.{AreGuarded}
 

@@ -1,15 +1,14 @@
 -- Each entry but the landing of a round keeps the bags.
-use Rattle.std.specs.Prelude.{Bool, Err, List, None, Option, Result, Some, [], false, filter, fold, is_none, length, map, refl, slice_get, true, unwrap_or, ℕ, ⊤, ◌&&◌, ◌++◌, ◌+◌, ◌==◌, ◌∷◌, ◌≡◌}
-use Rattle.std.proofs.Common.{ap, arith, subst, sym, ◌∙◌}
+use Rattle.std.specs.Prelude.{Err, List, None, Option, Result, Some, [], false, filter, is_none, length, map, refl, slice_get, unwrap_or, ℕ, ⊤, ◌&&◌, ◌++◌, ◌+◌, ◌==◌, ◌∷◌, ◌≡◌}
+use Rattle.std.proofs.Common.{ap, subst, sym, ◌∙◌}
 use Rattle.std.proofs.lemmas.Bool.{and_parts, false≢true}
 use Rattle.std.proofs.lemmas.Option.{none-some, same_Some}
-use Rattle.tt_history.specs.declared.history.Actor.{Actor}
 use Rattle.tt_history.specs.declared.history.Added.{Added}
 use Rattle.tt_history.specs.declared.history.EntryKind.{EntryKind}
 use Rattle.tt_plain.proofs.Answers.{bind_some, only_if_some}
 use Rattle.tt_plain.proofs.Tests.{none_is, same_number}
-use Rattle.tt_plain.proofs.law.Gives.{Gives, gives_at, gives_bind, gives_on, gives_or, gives_tested, gives_when}
-use Rattle.tt_plain.proofs.law.Turns.{IsTurn, next_gives, open_gives}
+use Rattle.tt_plain.proofs.law.Gives.{Gives, gives_bind, gives_on, gives_or, gives_tested, gives_when}
+use Rattle.tt_plain.proofs.law.Turns.{next_gives, open_gives}
 use Rattle.tt_plain.proofs.law.session.Alone.{IsDue, IsSaid}
 use Rattle.tt_plain.specs.Answers.{only_if, ◌>>=◌}
 use Rattle.tt_plain.specs.asked.Asked.{Asked, request_asked}
@@ -29,10 +28,9 @@ use Rattle.tt_plain.specs.effect.Rollback.{closing_effect, has_ended_statements,
 use Rattle.tt_plain.specs.effect.Round.{may_be_reclustered, miss_of, round_of, worker_effect}
 use Rattle.tt_plain.specs.effect.RoundStart.{may_take, round_start_effect}
 use Rattle.tt_plain.specs.history.Contents.{parts_added, pieces_of_lengths, rows_by_round, rows_by_session, rows_of_end}
-use Rattle.tt_plain.specs.history.Step.{actor_entry, of_next, of_open, purge_entry, round_entry, session_entry}
+use Rattle.tt_plain.specs.history.Step.{of_next, of_open, purge_entry, round_entry, session_entry}
 use Rattle.tt_plain.specs.history.TrueFacts.{replaced_by}
 use Rattle.tt_plain.specs.law.Changes.{IsSoundEffect}
-use Rattle.tt_plain.specs.law.Lists.{Every}
 use Rattle.tt_plain.specs.law.Sound.{IsSound}
 use Rattle.tt_plain.specs.stored.Points.{count_in}
 use Rattle.tt_plain.specs.stored.Sessions.{new_session, session_at}
@@ -48,10 +46,9 @@ use Rattle.tt_plain_laws.proofs.parts.Commits.{commit_backs, rollback_backs, rol
 use Rattle.tt_plain_laws.proofs.parts.Defines.{define_backs}
 use Rattle.tt_plain_laws.proofs.parts.Known.{KnownChange}
 use Rattle.tt_plain_laws.proofs.parts.Quiet.{IsQuietTally, quiet_backed, same_quiet, taken_quiet}
-use Rattle.tt_plain_laws.proofs.parts.Sessions.{Backs, abandon_backs, begin_backs, report_backs, wait_backs}
+use Rattle.tt_plain_laws.proofs.parts.Sessions.{abandon_backs, begin_backs, report_backs, wait_backs}
 use Rattle.tt_plain_laws.proofs.parts.Starts.{start_backs}
 use Rattle.tt_plain_laws.specs.Guarded.{AreGuarded}
-use Rattle.tt_history.specs.declared.history.Actor.TheVariants as actor
 use Rattle.tt_history.specs.declared.history.EntryKind.TheVariants as kind
 
 module _ (carried : Carried) (program : Script) (store : Plain) (contents : List (List Row)) (sound : IsSound carried program store) (backed : AreBacked carried program contents store) (guarded : AreGuarded store) where

@@ -1,5 +1,5 @@
 -- After each legal history in which no round has landed the contents of the parts form the bags.
-use Rattle.std.specs.Prelude.{Bool, List, None, Option, Some, [], false, fold, length, map, refl, slice_get, unwrap_or, ℕ, ⊤, ◌++◌, ◌+◌, ◌==◌, ◌∷◌, ◌≡◌}
+use Rattle.std.specs.Prelude.{List, None, Option, Some, [], false, fold, map, refl, slice_get, unwrap_or, ℕ, ◌++◌, ◌==◌, ◌∷◌, ◌≡◌}
 use Rattle.std.proofs.Common.{ap, arith, subst, suc, sym, zero, ◌∙◌}
 use Rattle.std.proofs.lemmas.Bool.{false≢true}
 use Rattle.std.proofs.lemmas.Option.{none-some, same_Some}
@@ -17,18 +17,17 @@ use Rattle.tt_plain.specs.declared.store.PlainSession.{PlainSession}
 use Rattle.tt_plain.specs.effect.Apply.{applied}
 use Rattle.tt_plain.specs.effect.Effect.{Effect}
 use Rattle.tt_plain.specs.history.Contents.{contents_of, contents_with, parts_added, pieces_of_lengths, rows_by_actor}
-use Rattle.tt_plain.specs.history.Replay.{Run, next_store, pairs_from, pairs_of, replay_of, store_after, store_or}
+use Rattle.tt_plain.specs.history.Replay.{next_store, pairs_from, pairs_of, store_after, store_or}
 use Rattle.tt_plain.specs.history.Step.{actor_entry, effect_of, step_of}
-use Rattle.tt_plain.specs.history.TrueFacts.{EachRemovesTouched, RemovesTouched, parts_to_remove}
+use Rattle.tt_plain.specs.history.TrueFacts.{RemovesTouched, parts_to_remove}
 use Rattle.tt_plain.specs.law.Changes.{IsSoundEffect}
-use Rattle.tt_plain.specs.law.Lists.{Every}
 use Rattle.tt_plain.specs.law.Sound.{IsSound}
 use Rattle.tt_plain.specs.stored.Empty.{empty_store}
 use Rattle.tt_plain.specs.stored.Sessions.{new_session}
 use Rattle.tt_script.specs.declared.script.Script.{Script}
 use Rattle.tt_script.specs.declared.script.SessionText.{SessionText}
 use Rattle.tt_value.specs.declared.value.Row.{Row}
-use Rattle.tt_plain_laws.proofs.Inductions.{IsEntry, by_entries}
+use Rattle.tt_plain_laws.proofs.Inductions.{by_entries}
 use Rattle.tt_plain_laws.proofs.guard.Entries.{entries_keep}
 use Rattle.tt_plain_laws.proofs.guard.Histories.{empty_guarded}
 use Rattle.tt_plain_laws.proofs.parts.Backed.{AreBacked, bags_formed}

@@ -1,8 +1,6 @@
 -- The numbers that the tally names are those of parts that were added, through each change of it.
-use Rattle.std.specs.Prelude.{Bool, List, None, Option, Some, [], false, filter, find, fold, length, nat_le, nat_lt, not, option_map, refl, slice_get, slice_set, true, unwrap_or, ℕ, ⊤, ◌++◌, ◌+◌, ◌-◌, ◌==◌, ◌∷◌, ◌≡◌, ◌≤◌}
-use Rattle.std.proofs.Common.{ap, arith, subst, sym, ◌∙◌}
+use Rattle.std.specs.Prelude.{List, None, Option, Some, [], filter, fold, nat_le, nat_lt, not, option_map, refl, slice_get, unwrap_or, ℕ, ⊤, ◌++◌, ◌-◌, ◌==◌, ◌∷◌, ◌≡◌, ◌≤◌}
 use Rattle.std.proofs.lemmas.Bool.{false≢true}
-use Rattle.tt_layout.specs.Numbers.{has}
 use Rattle.tt_plain.proofs.law.Lists.{every-append, every-filter, every-set, every_at, every_on}
 use Rattle.tt_plain.proofs.law.session.Views.{every_found}
 use Rattle.tt_plain.specs.declared.tally.Tally.{Tally}

@@ -1,5 +1,5 @@
 -- Effects by which what is pending of a session begins at once, or ends, keep the contents and the store backed.
-use Rattle.std.specs.Prelude.{Bool, List, None, Option, Some, [], false, find, fold, length, refl, slice_get, true, unwrap_or, ℕ, ◌++◌, ◌+◌, ◌-◌, ◌<◌, ◌==◌, ◌∷◌, ◌≡◌, ◌≢◌, ◌≤◌}
+use Rattle.std.specs.Prelude.{List, None, Option, Some, [], false, find, length, refl, slice_get, unwrap_or, ℕ, ◌++◌, ◌+◌, ◌-◌, ◌==◌, ◌≡◌, ◌≢◌, ◌≤◌}
 use Rattle.std.proofs.Common.{ap, arith, inl, inr, subst, sym, ◌∙◌, ◌⊎◌}
 use Rattle.std.proofs.lemmas.Bool.{cases_order, false≢true}
 use Rattle.std.proofs.lemmas.Option.{none-some, slice_get_within}
@@ -13,7 +13,6 @@ use Rattle.tt_plain.specs.declared.store.Plain.{Plain}
 use Rattle.tt_plain.specs.declared.store.PlainPending.{PlainPending}
 use Rattle.tt_plain.specs.declared.store.PlainSession.{PlainSession}
 use Rattle.tt_plain.specs.declared.store.PlainTable.{PlainTable}
-use Rattle.tt_plain.specs.declared.tally.Tally.{Tally}
 use Rattle.tt_plain.specs.declared.tally.TallyPending.{TallyPending}
 use Rattle.tt_plain.specs.effect.Apply.{applied}
 use Rattle.tt_plain.specs.effect.Effect.{Effect}
@@ -23,9 +22,8 @@ use Rattle.tt_plain.specs.law.Changes.{IsSoundEffect}
 use Rattle.tt_plain.specs.law.Isolated.{AreAmong}
 use Rattle.tt_plain.specs.law.Lists.{Every}
 use Rattle.tt_plain.specs.law.Sound.{AreSoundLists, IsSound}
-use Rattle.tt_plain.specs.opening.Seen.{pending_of, rows_with}
+use Rattle.tt_plain.specs.opening.Seen.{rows_with}
 use Rattle.tt_plain.specs.stored.Tables.{current_rows}
-use Rattle.tt_plain.specs.tally.Changes.{TallyChange}
 use Rattle.tt_plain.specs.tally.Layouts.{current_parts, lists_of}
 use Rattle.tt_plain.specs.tally.Pending.{no_lists}
 use Rattle.tt_script.specs.declared.script.Script.{Script}

@@ -1,10 +1,10 @@
 -- Copies of a row in the contents of parts, through lists of their numbers that ascend.
-use Rattle.std.specs.Prelude.{Bool, List, [], false, filter, not, refl, true, ℕ, ◌&&◌, ◌++◌, ◌+◌, ◌<◌, ◌==◌, ◌||◌, ◌∷◌, ◌≡◌, ◌≤◌}
-use Rattle.std.proofs.Common.{ap, arith, cond, inl, inr, subst, sym, ◌∙◌, ◌⊎◌}
+use Rattle.std.specs.Prelude.{Bool, List, [], false, filter, not, refl, true, ℕ, ◌&&◌, ◌+◌, ◌==◌, ◌∷◌, ◌≡◌}
+use Rattle.std.proofs.Common.{ap, arith, cond, inl, inr, sym, ◌∙◌, ◌⊎◌}
 use Rattle.std.proofs.Math.Bool.{or-true}
 use Rattle.std.proofs.lemmas.Bool.{and_parts, cases_order, eq-eqb, eqb-true, false≢true, or_cases}
-use Rattle.tt_layout.proofs.Ascending.{ascends-filter, ascends-joined, ascends_lower, has_below, same_numbers}
-use Rattle.tt_layout.proofs.Members.{has-changed, has-filter, has-joined, has-without, with_above, with_below}
+use Rattle.tt_layout.proofs.Ascending.{ascends-filter, has_below, same_numbers}
+use Rattle.tt_layout.proofs.Members.{has-filter, has-joined, has-without, with_above, with_below}
 use Rattle.tt_layout.specs.Numbers.{AscendsFrom, IsAscending, changed, has, joined, with_number, without}
 use Rattle.tt_plain.specs.history.Contents.{rows_numbered, rows_of_parts}
 use Rattle.tt_value.proofs.values.Bags.{copies_of-append}

@@ -1,9 +1,8 @@
 -- Effects that change no row and no part of any table keep the contents and the store backed.
-use Rattle.std.specs.Prelude.{Bool, List, None, Option, Some, [], false, find, fold, if◌then◌else◌, length, map, not, option_map, refl, slice_get, true, unwrap_or, ℕ, ⊤, ◌&&◌, ◌++◌, ◌+◌, ◌-◌, ◌==◌, ◌∷◌, ◌≡◌, ◌≤◌}
+use Rattle.std.specs.Prelude.{Bool, List, None, Option, Some, [], false, find, fold, if◌then◌else◌, length, map, option_map, refl, slice_get, true, unwrap_or, ℕ, ⊤, ◌++◌, ◌-◌, ◌==◌, ◌∷◌, ◌≡◌, ◌≤◌}
 use Rattle.std.proofs.Common.{ap, arith, length-append, subst, sym, ◌∙◌}
 use Rattle.std.proofs.lemmas.List.{length-map}
-use Rattle.std.proofs.lemmas.Option.{same_Some, slice_get-map}
-use Rattle.tt_layout.specs.Numbers.{has}
+use Rattle.std.proofs.lemmas.Option.{slice_get-map}
 use Rattle.tt_plain.proofs.law.Lists.{every_on}
 use Rattle.tt_plain.proofs.law.change.Apart.{get_unmap}
 use Rattle.tt_plain.specs.asked.Carried.{Carried}
@@ -18,23 +17,21 @@ use Rattle.tt_plain.specs.effect.End.{nothing_pending}
 use Rattle.tt_plain.specs.tally.Pending.{no_lists}
 use Rattle.tt_plain.specs.effect.Apply.{applied, changed_table, renamed}
 use Rattle.tt_plain.specs.effect.Effect.{Dropped, Effect, Made, NewKey, NewRegime, NewVersion, Renamed, Suspended, TableChange, Undropped}
-use Rattle.tt_plain.specs.history.Contents.{rows_numbered}
 use Rattle.tt_plain.specs.law.Bag.{pins_of}
 use Rattle.tt_plain.specs.law.Lists.{Every}
 use Rattle.tt_plain.specs.law.Sound.{IsSound}
-use Rattle.tt_plain.specs.opening.Seen.{pending_of}
-use Rattle.tt_plain.specs.tally.Changes.{EndsRound, Pins, StartsRound, TakesAway, TallyChange, Unpins, changed_tally, taken_away}
+use Rattle.tt_plain.specs.tally.Changes.{TakesAway, changed_tally, taken_away}
 use Rattle.tt_plain.specs.tally.Layouts.{current_parts, is_pending_of, lists_of}
 use Rattle.tt_plain.specs.tally.Parts.{part_numbered, rows_of_part}
 use Rattle.tt_retain.specs.Retention.{with_regime}
 use Rattle.tt_script.specs.declared.script.Script.{Script}
 use Rattle.tt_value.specs.declared.value.Row.{Row}
-use Rattle.tt_plain_laws.proofs.parts.Backed.{AreBacked, IsPinned, Measured}
+use Rattle.tt_plain_laws.proofs.parts.Backed.{AreBacked, IsPinned}
 use Rattle.tt_plain_laws.proofs.parts.Balance.{IsBalanced, lists_now, pending_now}
 use Rattle.tt_plain_laws.proofs.parts.Contents.{same_numbered}
 use Rattle.tt_plain_laws.proofs.parts.Numbers.{Outside}
 use Rattle.tt_plain_laws.proofs.parts.Known.{KnownChange}
-use Rattle.tt_plain_laws.proofs.parts.Step.{IsSame, balanced_still, each_session, known_next, layouts_still, longer, pinned_other}
+use Rattle.tt_plain_laws.proofs.parts.Step.{IsSame, balanced_still, each_session, known_next, layouts_still, pinned_other}
 use Rattle.tt_layout.specs.Chain as chain
 
 -- ---- tables with the same versions

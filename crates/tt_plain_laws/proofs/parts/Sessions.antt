@@ -7,29 +7,25 @@ use Rattle.tt_history.specs.declared.reply.Refusal.{Refusal}
 use Rattle.tt_history.specs.declared.reply.Reply.{Reply}
 use Rattle.tt_plain.proofs.Tests.{none_is}
 use Rattle.tt_plain.proofs.law.Gives.{Gives, gives_at, gives_bind, gives_if, gives_map, gives_tested}
-use Rattle.tt_plain.proofs.law.Lists.{every_at}
 use Rattle.tt_plain.proofs.law.Turns.{due_gives}
 use Rattle.tt_plain.proofs.law.session.Alone.{IsDue}
 use Rattle.tt_plain.specs.asked.Asked.{Asked, request_asked, state_asked}
 use Rattle.tt_plain.specs.asked.Carried.{Carried}
 use Rattle.tt_plain.specs.asked.Request.{Request, Tells, Waits}
-use Rattle.tt_plain.specs.declared.store.PlainMark.{PlainMark}
 use Rattle.tt_plain.specs.declared.store.PlainOpen.{PlainOpen}
 use Rattle.tt_plain.specs.declared.store.PlainSession.{PlainSession}
 use Rattle.tt_plain.specs.effect.Abandon.{abandon_effect, failure, given_up}
 use Rattle.tt_plain.specs.effect.Begin.{begin_done, begin_effect}
-use Rattle.tt_plain.specs.effect.Commit.{points_settled, session_committed}
 use Rattle.tt_plain.specs.effect.Effect.{Effect}
 use Rattle.tt_plain.specs.effect.Ending.{ended_with, memory_effect, own_point_now, refused_effect, session_done, told_effect}
 use Rattle.tt_plain.specs.effect.Report.{report_effect, report_told, reported_by}
-use Rattle.tt_plain.specs.effect.Rollback.{rollback_effect, rolled_back}
 use Rattle.tt_plain.specs.effect.Wait.{wait_effect, waited_by}
 use Rattle.tt_plain.specs.law.Lists.{Every}
 use Rattle.tt_plain.specs.meaning.Outcome.{outcome_of}
 use Rattle.tt_plain.specs.refusal.ClockEnd.{wait_length}
 use Rattle.tt_plain.specs.refusal.First.{refusal_of}
 use Rattle.tt_plain.specs.report.Rows.{report_rows}
-use Rattle.tt_plain.specs.tally.Changes.{EndsPending, TallyChange, Unpins}
+use Rattle.tt_plain.specs.tally.Changes.{TallyChange, Unpins}
 use Rattle.tt_plain.specs.text.RefusalTable.{refusal_number}
 use Rattle.std.specs.Prelude.{fold, slice_get}
 use Rattle.std.proofs.Common.{◌∙◌}

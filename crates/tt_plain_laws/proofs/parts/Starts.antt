@@ -1,18 +1,16 @@
 -- The start of a query or a change keeps the bags: what it pins holds what it has seen.
 use Rattle.std.specs.List.{AllZip, cons_option}
-use Rattle.std.specs.Prelude.{Bool, List, None, Option, Result, Some, [], false, filter_map, fold, if◌then◌else◌, int_lt, is_none, length, map, nat_abs, negsuc, option_and_then, option_map, option_to_list, pos, refl, slice_get, true, unwrap_or, ℕ, ℤ, ⊤, ◌++◌, ◌+◌, ◌-◌, ◌<◌, ◌∷◌, ◌≡◌, ◌≤◌}
-use Rattle.std.proofs.Common.{ap, arith, inl, inr, length-append, subst, suc, sym, zero, ◌∙◌, ◌⊎◌}
+use Rattle.std.specs.Prelude.{Bool, List, None, Option, Result, Some, [], false, filter_map, if◌then◌else◌, int_lt, length, map, nat_abs, negsuc, option_and_then, option_map, option_to_list, pos, refl, slice_get, true, ℕ, ℤ, ◌++◌, ◌-◌, ◌∷◌, ◌≡◌, ◌≤◌}
+use Rattle.std.proofs.Common.{ap, arith, inl, inr, length-append, subst, suc, sym, zero, ◌∙◌}
 use Rattle.std.proofs.lemmas.Bool.{false≢true, ltb-false}
 use Rattle.std.proofs.lemmas.Option.{none-some, same_Some}
 use Rattle.tt_history.specs.declared.history.Told.{Told}
-use Rattle.tt_history.specs.declared.reply.Refusal.{Refusal}
-use Rattle.tt_layout.specs.Numbers.{changed, has}
 use Rattle.tt_plain.proofs.Answers.{bind_some}
-use Rattle.tt_plain.proofs.law.Gives.{Gives, gives_at, gives_bind, gives_map}
+use Rattle.tt_plain.proofs.law.Gives.{Gives, gives_map}
 use Rattle.tt_plain.proofs.law.Lists.{every-filter_map, every-map, every_on}
 use Rattle.tt_plain.proofs.law.Turns.{due_gives}
 use Rattle.tt_plain.proofs.law.session.Alone.{IsDue, IsSaid}
-use Rattle.tt_plain.proofs.law.session.Views.{GoodPin, IsNamed, IsTable, change_pinned, named, sources_pinned}
+use Rattle.tt_plain.proofs.law.session.Views.{GoodPin, IsTable, change_pinned, named, sources_pinned}
 use Rattle.tt_plain.specs.Answers.{◌>>=◌}
 use Rattle.tt_plain.specs.asked.Asked.{Asked, own_point, request_asked, state_asked, table_asked}
 use Rattle.tt_plain.specs.asked.Carried.{Carried}
@@ -29,7 +27,7 @@ use Rattle.tt_plain.specs.law.Bag.{Form, PinForms, pins_of, seen_in_pins}
 use Rattle.tt_plain.specs.law.Lists.{Every}
 use Rattle.tt_plain.specs.opening.Marks.{marks_exclusively, with_mark}
 use Rattle.tt_plain.specs.opening.Opened.{change_opened, opened, query_opened, sources_seen, target_of, target_rows}
-use Rattle.tt_plain.specs.opening.Point.{At, NoStatement, NotEnded, Point, change_sources, inserted_sources, moment_at, point_of, query_sources, sources_in, travel_of, travels_asked}
+use Rattle.tt_plain.specs.opening.Point.{At, NoStatement, NotEnded, Point, change_sources, inserted_sources, point_of, query_sources, sources_in, travel_of, travels_asked}
 use Rattle.tt_plain.specs.opening.Seen.{rows_at_point, rows_by_clause, rows_seen, visible_rows}
 use Rattle.tt_plain.specs.refusal.{first_some, head_of}
 use Rattle.tt_plain.specs.refusal.First.{refusal_of, refusals}
@@ -46,10 +44,10 @@ use Rattle.tt_sql.specs.declared.query.Source.{Source}
 use Rattle.tt_sql.specs.declared.statement.Statement.{Statement}
 use Rattle.tt_value.specs.declared.name.TableName.{TableName}
 use Rattle.tt_value.specs.declared.value.Row.{Row}
-use Rattle.tt_plain_laws.proofs.parts.Backed.{AreBacked, IsPinned, seen_is, visible_hold}
+use Rattle.tt_plain_laws.proofs.parts.Backed.{AreBacked, seen_is, visible_hold}
 use Rattle.tt_plain_laws.proofs.parts.Balance.{lists_now}
 use Rattle.tt_plain_laws.proofs.parts.Contents.{Known, known_more}
-use Rattle.tt_plain_laws.proofs.parts.Known.{AreKnown, KnownPin, known_at, known_current, known_lists}
+use Rattle.tt_plain_laws.proofs.parts.Known.{KnownPin, known_at, known_current, known_lists}
 use Rattle.tt_plain_laws.proofs.parts.Numbers.{within_changed}
 use Rattle.tt_plain_laws.proofs.parts.Quiet.{same_quiet}
 use Rattle.tt_plain_laws.proofs.parts.Sessions.{Backs, memory_backs, quiet_backs, told_backs}

@@ -1,6 +1,6 @@
 -- How what is so of contents and store is carried over an effect.
 use Rattle.std.specs.List.{AllZip, last_or}
-use Rattle.std.specs.Prelude.{Bool, List, None, Option, Result, Some, [], false, filter, fold, length, map, refl, slice_get, true, unwrap_or, ℕ, ◌++◌, ◌+◌, ◌-◌, ◌<◌, ◌==◌, ◌∷◌, ◌≡◌, ◌≢◌, ◌≤◌}
+use Rattle.std.specs.Prelude.{List, None, Option, Some, [], filter, length, refl, slice_get, unwrap_or, ℕ, ◌++◌, ◌+◌, ◌-◌, ◌<◌, ◌∷◌, ◌≡◌, ◌≢◌, ◌≤◌}
 use Rattle.std.proofs.Common.{ap, arith, inl, inr, length-append, subst, sym, ◌∙◌, ◌⊎◌}
 use Rattle.std.proofs.lemmas.Bool.{cases_order}
 use Rattle.std.proofs.lemmas.Option.{none-some, same_Some}
@@ -14,28 +14,24 @@ use Rattle.tt_plain.specs.declared.store.PlainTable.{PlainTable}
 use Rattle.tt_plain.specs.declared.store.Version.{Version}
 use Rattle.tt_plain.specs.declared.tally.TallyPending.{TallyPending}
 use Rattle.tt_plain.specs.declared.tally.TallyPin.{TallyPin}
-use Rattle.tt_plain.specs.effect.Apply.{applied, changed_session, changed_table}
+use Rattle.tt_plain.specs.effect.Apply.{applied, changed_session}
 use Rattle.tt_plain.specs.effect.Effect.{Effect}
-use Rattle.tt_plain.specs.effect.End.{nothing_pending}
 use Rattle.tt_plain.specs.history.Contents.{rows_of_parts}
 use Rattle.tt_plain.specs.law.Bag.{Form, LayoutsForm, PinForms, pins_of, seen_in_pins}
-use Rattle.tt_plain.specs.law.Changes.{IsSoundEffect}
 use Rattle.tt_plain.specs.law.Lists.{Every}
 use Rattle.tt_plain.specs.law.Past.{KeepsPast}
 use Rattle.tt_plain.specs.law.Sound.{IsSound}
-use Rattle.tt_plain.specs.opening.Seen.{pending_of}
 use Rattle.tt_plain.specs.stored.Tables.{current_rows, is_begun_at, rows_at, rows_of, table_numbered}
-use Rattle.tt_plain.specs.tally.Changes.{TallyChange, changed_tally}
 use Rattle.tt_plain.specs.tally.Layouts.{current_parts, parts_at}
 use Rattle.tt_script.specs.declared.script.Script.{Script}
 use Rattle.tt_value.specs.declared.value.Row.{Row}
 use Rattle.tt_value.specs.values.Bags.{bag_of, copies_of}
 use Rattle.tt_layout.specs.Chain as chain
 use Rattle.tt_plain_laws.proofs.guard.Kept.{are_numbered, set_other}
-use Rattle.tt_plain_laws.proofs.parts.Backed.{AreBacked, IsPinned, Measured, current_hold, parts_now, rows_now, sound_at}
-use Rattle.tt_plain_laws.proofs.parts.Balance.{Hold, IsBalanced, form_from, hold_from, lists_now, more_balanced, moved_balanced, pending_now}
-use Rattle.tt_plain_laws.proofs.parts.Contents.{Known, known_more, same_contents}
-use Rattle.tt_plain_laws.proofs.parts.Known.{AreKnown, KnownChange, KnownPin, known_at, known_current, known_fold, known_lists, known_pins, more_known}
+use Rattle.tt_plain_laws.proofs.parts.Backed.{AreBacked, IsPinned, parts_now, rows_now}
+use Rattle.tt_plain_laws.proofs.parts.Balance.{Hold, IsBalanced, form_from, lists_now, more_balanced, moved_balanced, pending_now}
+use Rattle.tt_plain_laws.proofs.parts.Contents.{same_contents}
+use Rattle.tt_plain_laws.proofs.parts.Known.{AreKnown, KnownChange, KnownPin, known_at, known_fold, known_lists, known_pins, more_known}
 use Rattle.tt_plain_laws.proofs.parts.Numbers.{Outside, Within}
 
 -- of each session after an effect: it makes the effect, or is as before

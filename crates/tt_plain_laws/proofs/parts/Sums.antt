@@ -1,7 +1,7 @@
 -- Sums over rows depend on their copies alone; and rows of which a test takes some, which are replaced.
 use Rattle.std.specs.List.{list_any}
-use Rattle.std.specs.Prelude.{Bool, List, [], false, filter, flat_map, if◌then◌else◌, length, not, refl, true, ℕ, ◌++◌, ◌+◌, ◌||◌, ◌∷◌, ◌≡◌, ◌≢◌, ◌≤◌}
-use Rattle.std.proofs.Common.{ap, arith, cond, length-append, subst, sym, ◌∙◌}
+use Rattle.std.specs.Prelude.{Bool, List, [], false, filter, flat_map, if◌then◌else◌, length, not, refl, true, ℕ, ◌++◌, ◌+◌, ◌||◌, ◌∷◌, ◌≡◌}
+use Rattle.std.proofs.Common.{ap, arith, cond, length-append, sym, ◌∙◌}
 use Rattle.std.proofs.lemmas.Bool.{false≢true}
 use Rattle.tt_plain.specs.history.Contents.{rows_numbered, rows_of_parts}
 use Rattle.tt_value.proofs.values.Bags.{bag_of_same, copies_of-append, copies_of-cons, one_if, same_is}

@@ -1,18 +1,12 @@
 -- What is found of a session and a table in the tally, after changes of it.
-use Rattle.std.specs.Prelude.{Bool, List, None, Option, Some, [], false, filter, find, nat_lt, not, refl, true, ℕ, ◌&&◌, ◌++◌, ◌+◌, ◌<◌, ◌==◌, ◌||◌, ◌∷◌, ◌≡◌}
+use Rattle.std.specs.Prelude.{Bool, List, None, Option, Some, [], false, filter, find, nat_lt, refl, true, ℕ, ◌++◌, ◌+◌, ◌<◌, ◌==◌, ◌∷◌, ◌≡◌}
 use Rattle.std.specs.Option.{option_or}
-use Rattle.std.proofs.Common.{ap, arith, cond, inl, inr, sym, ◌∙◌, ◌⊎◌}
-use Rattle.std.proofs.Math.Bool.{or-true}
-use Rattle.std.proofs.lemmas.Bool.{and_parts, cases_order, eq-eqb, eqb-true, false≢true, ltb-true}
+use Rattle.std.proofs.Common.{ap, arith, cond, inl, inr, sym, ◌∙◌}
+use Rattle.std.proofs.lemmas.Bool.{cases_order, eq-eqb, eqb-true, false≢true}
 use Rattle.std.proofs.lemmas.Bool.Decides.{nat_tests}
-use Rattle.tt_plain.specs.declared.store.PlainPending.{PlainPending}
-use Rattle.tt_plain.specs.declared.tally.Tally.{Tally}
-use Rattle.tt_plain.specs.declared.tally.TallyPending.{TallyPending}
 use Rattle.tt_plain.specs.declared.tally.TallyPin.{TallyPin}
-use Rattle.tt_plain.specs.effect.End.{with_pending}
 use Rattle.tt_plain.specs.law.Lists.{Every}
-use Rattle.tt_plain.specs.tally.Changes.{stands_before, with_lists, with_pins}
-use Rattle.tt_plain.specs.tally.Layouts.{is_pending_of}
+use Rattle.tt_plain.specs.tally.Changes.{with_pins}
 
 -- ---- filters and finds
 
