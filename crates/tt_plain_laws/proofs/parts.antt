@@ -12,6 +12,7 @@ pub mod Ends
 pub mod Entries
 pub mod Histories
 pub mod Known
+pub mod Landing
 pub mod Moved
 pub mod Numbers
 pub mod Places

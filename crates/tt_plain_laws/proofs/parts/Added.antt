@@ -38,7 +38,7 @@ in_range first (suc count) k e = elim (or_cases (first == k) (has (range_with_le
   | inr h ↦ let rest = in_range (first + 1) count k h in (omega (arith, rest.0), omega (arith, rest.1))
 ]
 
-get_some : {A : Type 0} (xs : List A) (k : ℕ) → k < length xs → (x : A) × (slice_get xs k ≡ Some x)
+pub get_some : {A : Type 0} (xs : List A) (k : ℕ) → k < length xs → (x : A) × (slice_get xs k ≡ Some x)
 get_some [] k within = absurd (omega (arith, within))
 get_some (x ∷ xs) zero within = (x, refl)
 get_some (x ∷ xs) (suc k) within = get_some xs k (omega (arith, within))

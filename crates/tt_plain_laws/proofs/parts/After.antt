@@ -291,15 +291,16 @@ module _ (tally : Tally) (moment session : ℕ) where
     pub parts : after.parts ≡ before.parts
     pub pending : after.pending ≡ before.pending
     pub pins : after.pins ≡ before.pins
+    pub round : after.round ≡ before.round
     pub many : length after.layouts ≡ length before.layouts
 
   pub only_begun : (now : Tally) (table : ℕ) (gone added : List ℕ) → OnlyLayouts now (fold changed_tally now (layout_begun tally moment table gone added))
-  only_begun now table [] [] = record { parts = refl; pending = refl; pins = refl; many = refl }
-  only_begun now table [] (n ∷ added) = record { parts = refl; pending = refl; pins = refl; many = length-set now.layouts (table - 1) _ }
-  only_begun now table (n ∷ gone) added = record { parts = refl; pending = refl; pins = refl; many = length-set now.layouts (table - 1) _ }
+  only_begun now table [] [] = record { parts = refl; pending = refl; pins = refl; round = refl; many = refl }
+  only_begun now table [] (n ∷ added) = record { parts = refl; pending = refl; pins = refl; round = refl; many = length-set now.layouts (table - 1) _ }
+  only_begun now table (n ∷ gone) added = record { parts = refl; pending = refl; pins = refl; round = refl; many = length-set now.layouts (table - 1) _ }
 
   only_on : (a b c : Tally) → OnlyLayouts a b → OnlyLayouts b c → OnlyLayouts a c
-  only_on a b c left right = record { parts = right.parts ∙ left.parts; pending = right.pending ∙ left.pending; pins = right.pins ∙ left.pins; many = right.many ∙ left.many }
+  only_on a b c left right = record { parts = right.parts ∙ left.parts; pending = right.pending ∙ left.pending; pins = right.pins ∙ left.pins; round = right.round ∙ left.round; many = right.many ∙ left.many }
 
   pub fold_tally-append : (now : Tally) (xs ys : List TallyChange) → fold changed_tally now (xs ++ ys) ≡ fold changed_tally (fold changed_tally now xs) ys
   fold_tally-append now [] ys = refl
@@ -309,7 +310,7 @@ module _ (tally : Tally) (moment session : ℕ) where
   begun_by_lists l = layout_begun tally moment l.table l.gone l.added
 
   pub only_lists : (now : Tally) (rest : List TallyPending) → OnlyLayouts now (fold changed_tally now (flat_map begun_by_lists rest))
-  only_lists now [] = record { parts = refl; pending = refl; pins = refl; many = refl }
+  only_lists now [] = record { parts = refl; pending = refl; pins = refl; round = refl; many = refl }
   only_lists now (l ∷ rest) =
       subst (OnlyLayouts now) (sym (fold_tally-append now (begun_by_lists l) (flat_map begun_by_lists rest)))
       (only_on now (fold changed_tally now (begun_by_lists l)) (fold changed_tally (fold changed_tally now (begun_by_lists l)) (flat_map begun_by_lists rest)) (only_begun now l.table l.gone l.added)

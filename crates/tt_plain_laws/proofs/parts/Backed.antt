@@ -1,6 +1,6 @@
 -- What is so of the contents and the store after each entry, and what it says of the bags.
 use Rattle.std.specs.List.{AllZip, enumerate_from, last_or}
-use Rattle.std.specs.Prelude.{All, Bool, List, None, Option, Result, Some, [], false, filter, find, length, nat_le, option_map, refl, slice_get, true, unwrap_or, ℕ, ◌+◌, ◌-◌, ◌==◌, ◌∷◌, ◌≡◌, ◌≤◌}
+use Rattle.std.specs.Prelude.{All, Bool, List, None, Option, Result, Some, [], false, filter, find, length, nat_le, option_map, refl, slice_get, true, unwrap_or, ℕ, ◌+◌, ◌-◌, ◌==◌, ◌∷◌, ◌<◌, ◌≡◌, ◌≤◌}
 use Rattle.std.proofs.Common.{ap, arith, cond, subst, suc, sym, ◌∙◌}
 use Rattle.std.proofs.lemmas.Bool.Decides.{nat_tests}
 use Rattle.std.proofs.lemmas.List.Elements.{All-cons, All-nil}
@@ -26,6 +26,7 @@ use Rattle.tt_plain.specs.declared.store.PlainTable.{PlainTable}
 use Rattle.tt_plain.specs.declared.store.Version.{Version}
 use Rattle.tt_plain.specs.declared.tally.Tally.{Tally}
 use Rattle.tt_plain.specs.declared.tally.TallyPending.{TallyPending}
+use Rattle.tt_plain.specs.declared.tally.TallyRound.{TallyRound}
 use Rattle.tt_plain.specs.effect.End.{nothing_pending}
 use Rattle.tt_plain.specs.history.Contents.{rows_numbered, rows_of_parts}
 use Rattle.tt_plain.specs.law.Bag.{BagsAreFormed, Form, LayoutsForm, PinForms, PinsForm, SeenForms, pins_of, seen_in_pins}
@@ -68,6 +69,7 @@ pub record AreBacked (carried : Carried) (program : Script) (contents : List (Li
   pub balanced : (session : ℕ) (state : PlainSession) → slice_get store.sessions session ≡ Some state → (table : ℕ) → 1 ≤ table → table ≤ length store.tables →
       IsBalanced contents (current_parts store.tally table) (lists_now store.tally session table) (pending_now state table)
   pub apart : (a b table : ℕ) → (a ≡ b → ⊥) → Outside (lists_now store.tally a table).added (lists_now store.tally b table).added
+  pub round : (round : TallyRound) → store.tally.round ≡ Some round → round.table - 1 < length store.tables
   pub pinned : (session : ℕ) (state : PlainSession) → slice_get store.sessions session ≡ Some state → IsPinned carried program contents store.tally session state
 
 -- ---- now

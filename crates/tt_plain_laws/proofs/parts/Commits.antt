@@ -206,6 +206,7 @@ module _ (carried : Carried) (asked : Asked) (due : IsDue carried asked) (conten
         placed = subst (λ (t : Tally). Every (λ (l : TallyPending). l.table ≤ length asked.store.tables) t.pending) (sym whole)
             (every-filter (λ (l : TallyPending). l.table ≤ length asked.store.tables) (λ (l : TallyPending). not (l.session == s)) mid.pending
             (subst (Every (λ (l : TallyPending). l.table ≤ length asked.store.tables)) (sym only.pending) backed.placed));
+        round = ap (λ (t : Tally). t.round) whole ∙ only.round;
         pins = λ other apart. ap (λ (t : Tally). filter (λ (pin : TallyPin). pin.session == other) t.pins) whole ∙ ap (filter (λ (pin : TallyPin). pin.session == other)) only.pins;
         balanced = λ table first within.
             let known = known_lists (length contents) tally s table backed.known in
@@ -252,6 +253,7 @@ module _ (carried : Carried) (asked : Asked) (due : IsDue carried asked) (conten
         ended = λ table. lists_ended s table tally.pending;
         others = λ other table apart. lists_other s other table tally.pending apart;
         placed = every-filter (λ (l : TallyPending). l.table ≤ length asked.store.tables) (λ (l : TallyPending). not (l.session == s)) tally.pending backed.placed;
+        round = refl;
         pins = λ other apart. refl;
         balanced = λ table first within. none_balanced (contents ++ []) (current_parts tally table) s table;
         up = λ table. (tt, tt);

@@ -42,7 +42,7 @@ added_cut contents tally gone removed brought added none nothing sums = record {
 
 -- ---- changes that replace rows
 
-length-rows : (contents : List (List Row)) (tally : Tally) → Measured contents tally → (numbers : List ℕ) → Known (length contents) numbers → rows_in_parts tally numbers ≡ length (rows_of_parts contents numbers)
+pub length-rows : (contents : List (List Row)) (tally : Tally) → Measured contents tally → (numbers : List ℕ) → Known (length contents) numbers → rows_in_parts tally numbers ≡ length (rows_of_parts contents numbers)
 length-rows contents tally measured [] known = refl
 length-rows contents tally measured (n ∷ numbers) known =
     let here = known n (has_itself n numbers) in

@@ -227,6 +227,7 @@ module _ (carried : Carried) (asked : Asked) (due : IsDue carried asked) (said :
                 | inr off ↦ other_still effect placed other held_by at t first inside (left_alone t first off)
               ]);
           apart = apart_next effect placed;
+          round = λ round e. omega (arith, backed.round round e, many);
           pinned = pinned_next effect placed;
         }
       where
@@ -350,6 +351,7 @@ module _ (carried : Carried) (asked : Asked) (due : IsDue carried asked) (said :
             | inr (inr above) ↦ absurd (omega (arith, above, within, total))
           ]);
           apart = apart_next effect placed;
+          round = λ round e. omega (arith, backed.round round e, total);
           pinned = pinned_next effect placed;
         }
 

@@ -264,6 +264,7 @@ module _ (carried : Carried) (asked : Asked) (due : IsDue carried asked) (conten
             subst (λ (c : ℕ × PlainSession). IsBalanced (contents ++ more) (current_parts tally t) (kept_lists c.0 t) (pending_now c.1 t)) (same_Some (s, left) (session, new) e) (own_balanced effect t first within))
             (λ other held_by at apart t first within. other_balanced effect other held_by at (λ e. apart left (ap (λ (n : ℕ). Some (n, left)) (sym e))) t first within);
         apart = kept_apart;
+        round = λ round e. backed.round round e;
         pinned = each_session asked.store effect (λ session new. IsPinned carried asked.program (contents ++ more) (applied asked.store effect).tally session new)
             (λ session new e other read open_now said. absurd (none-some other (ap (λ (c : ℕ × PlainSession). c.1.running) (same_Some (s, left) (session, new) e) ∙ open_now)))
             (λ other held_by at apart. pinned_other carried asked.program contents more asked.store effect due.sound backed other held_by at
@@ -387,6 +388,7 @@ module _ (carried : Carried) (asked : Asked) (due : IsDue carried asked) (conten
         others = λ other t apart. ap (λ (x : Tally). find (is_pending_of other t) x.pending) whole ∙ ap (find (is_pending_of other t)) only.pending;
         placed = subst (λ (x : Tally). Every (λ (l : TallyPending). l.table ≤ length asked.store.tables) x.pending) (sym whole)
             (subst (Every (λ (l : TallyPending). l.table ≤ length asked.store.tables)) (sym only.pending) backed.placed);
+        round = ap (λ (x : Tally). x.round) whole ∙ only.round;
         pins = λ other apart. ap (λ (x : Tally). filter (λ (pin : TallyPin). pin.session == other) x.pins) whole ∙ pins_other s [] mid.pins tt other apart ∙ ap (filter (λ (pin : TallyPin). pin.session == other)) only.pins;
         balanced = λ t first within. elim (same_or t table) [
           | inl e ↦ subst (λ (l : TallyPending). IsBalanced (contents ++ more) (current_parts tally t) l (found_for pending_key nothing_pending (pending ∷ []) t)) (sym (one_at t e))

@@ -1,8 +1,8 @@
--- Each entry but the landing of a round keeps the bags.
-use Rattle.std.specs.Prelude.{Err, List, None, Option, Result, Some, [], false, filter, is_none, length, map, refl, slice_get, unwrap_or, ℕ, ⊤, ◌&&◌, ◌++◌, ◌+◌, ◌==◌, ◌∷◌, ◌≡◌}
-use Rattle.std.proofs.Common.{ap, subst, sym, ◌∙◌}
-use Rattle.std.proofs.lemmas.Bool.{and_parts, false≢true}
-use Rattle.std.proofs.lemmas.Option.{none-some, same_Some}
+-- Each entry keeps the bags.
+use Rattle.std.specs.Prelude.{Err, List, None, Option, Result, Some, [], filter, is_none, length, map, refl, slice_get, unwrap_or, ℕ, ⊤, ◌&&◌, ◌++◌, ◌+◌, ◌==◌, ◌∷◌, ◌<◌, ◌-◌, ◌≡◌}
+use Rattle.std.proofs.Common.{arith, ap, subst, sym, ◌∙◌}
+use Rattle.std.proofs.lemmas.Bool.{and_parts}
+use Rattle.std.proofs.lemmas.Option.{none-some, same_Some, slice_get_within}
 use Rattle.tt_history.specs.declared.history.Added.{Added}
 use Rattle.tt_history.specs.declared.history.EntryKind.{EntryKind}
 use Rattle.tt_plain.proofs.Answers.{bind_some, only_if_some}
@@ -17,8 +17,9 @@ use Rattle.tt_plain.specs.asked.Turns.{asked_with, open_asked, statement_read}
 use Rattle.tt_plain.specs.declared.store.Plain.{Plain}
 use Rattle.tt_plain.specs.declared.store.PlainOpen.{PlainOpen}
 use Rattle.tt_plain.specs.declared.store.PlainSession.{PlainSession}
+use Rattle.tt_plain.specs.declared.tally.TallyRound.{TallyRound}
 use Rattle.tt_plain.specs.declared.tally.TallyPin.{TallyPin}
-use Rattle.tt_plain_laws.specs.Bags.{is_landing}
+use Rattle.tt_plain_laws.proofs.parts.Landing.{landing_backs}
 use Rattle.tt_plain.specs.effect.Apply.{applied}
 use Rattle.tt_plain.specs.effect.Effect.{Effect}
 use Rattle.tt_plain.specs.effect.End.{end_effect}
@@ -58,38 +59,41 @@ module _ (carried : Carried) (program : Script) (store : Plain) (contents : List
 
   -- ---- workers
 
-  worker_backs : (change : TallyChange) → IsQuietTally store.tally (changed_tally store.tally change) → KnownChange (length (contents ++ [])) change → (changed_tally store.tally change).pins ≡ store.tally.pins → BacksBy [] (worker_effect store (change ∷ []))
+  worker_backs : (change : TallyChange) → IsQuietTally store.tally (changed_tally store.tally change) → KnownChange (length (contents ++ [])) change → (changed_tally store.tally change).pins ≡ store.tally.pins
+      → ((round : TallyRound) → (changed_tally store.tally change).round ≡ Some round → round.table - 1 < length store.tables) → BacksBy [] (worker_effect store (change ∷ []))
   unfolding applied
-  worker_backs change quiet known pins good =
+  worker_backs change quiet known pins round good =
       quiet_backed carried program contents store (worker_effect store (change ∷ [])) sound backed (record {
         tables = tt;
         tally = quiet;
         known = (known, tt);
         own = λ session new e. absurd (none-some (session, new) e);
         pinned = λ session new e. absurd (none-some (session, new) e);
+        round = round;
         others = λ other apart. ap (filter (λ (pin : TallyPin). pin.session == other)) pins;
       })
 
-  pub round_backs : (index : ℕ) (k : EntryKind) → is_landing k ≡ false → Gives (BacksBy (pieces_of_lengths (map (λ (part : Added). part.rows) (parts_added k)) (rows_by_round contents store k))) (round_entry store index k)
+  pub round_backs : (index : ℕ) (k : EntryKind) → Gives (BacksBy (pieces_of_lengths (map (λ (part : Added). part.rows) (parts_added k)) (rows_by_round contents store k))) (round_entry store index k)
   unfolding round_entry round_start_effect round_miss_effect
-  round_backs index (kind.RecluStart number parts) calm =
+  round_backs index (kind.RecluStart number parts) =
       gives_tested (BacksBy []) (is_none store.tally.round && index == store.tally.rounds + 1) index _ (λ next.
       gives_bind (BacksBy []) (table_numbered store number) _ (λ table there.
       gives_tested (BacksBy []) (may_be_reclustered store table && may_take store.tally number parts) table _ (λ free.
       gives_bind (BacksBy []) table.key _ (λ key has_key.
-      worker_backs (StartsRound (record { table = number; key = key; parts = parts })) (same_quiet store.tally (changed_tally store.tally (StartsRound (record { table = number; key = key; parts = parts }))) refl refl refl) tt refl))))
-  round_backs index (kind.RecluEnd table gone added) calm = absurd (false≢true (sym calm))
-  round_backs index (kind.RecluMiss table why) calm =
+      worker_backs (StartsRound (record { table = number; key = key; parts = parts })) (same_quiet store.tally (changed_tally store.tally (StartsRound (record { table = number; key = key; parts = parts }))) refl refl refl) tt refl
+      (λ round e. omega (arith, slice_get_within store.tables (number - 1) table there, ap (λ (r : TallyRound). r.table) (same_Some (record { table = number; key = key; parts = parts }) round e)))))))
+  round_backs index (kind.RecluEnd table gone added) = landing_backs carried program store contents sound backed guarded index table gone added
+  round_backs index (kind.RecluMiss table why) =
       gives_bind (BacksBy []) (round_of store index table) _ (λ round there.
       gives_tested (BacksBy []) (may_miss (miss_of store round) why) round _ (λ missed.
-      worker_backs EndsRound (same_quiet store.tally (changed_tally store.tally EndsRound) refl refl refl) tt refl))
-  round_backs index _ calm = tt
+      worker_backs EndsRound (same_quiet store.tally (changed_tally store.tally EndsRound) refl refl refl) tt refl (λ round e. absurd (none-some round e))))
+  round_backs index _ = tt
 
-  pub purge_backs : (index : ℕ) (k : EntryKind) → is_landing k ≡ false → Gives (BacksBy (pieces_of_lengths (map (λ (part : Added). part.rows) (parts_added k)) [])) (purge_entry store index k)
+  pub purge_backs : (index : ℕ) (k : EntryKind) → Gives (BacksBy (pieces_of_lengths (map (λ (part : Added). part.rows) (parts_added k)) [])) (purge_entry store index k)
   unfolding purge_entry purge_effect
-  purge_backs index (kind.Purge parts) calm =
-      gives_when (BacksBy []) (index == store.tally.purges + 1 && may_purge store parts) _ (λ test. worker_backs (TakesAway parts) (taken_quiet store.tally parts) tt refl)
-  purge_backs index _ calm = tt
+  purge_backs index (kind.Purge parts) =
+      gives_when (BacksBy []) (index == store.tally.purges + 1 && may_purge store parts) _ (λ test. worker_backs (TakesAway parts) (taken_quiet store.tally parts) tt refl (λ round e. backed.round round e))
+  purge_backs index _ = tt
 
   -- ---- sessions
 
@@ -185,22 +189,22 @@ module _ (carried : Carried) (program : Script) (store : Plain) (contents : List
     Touches (kind.End gone added) = gone ≡ unwrap_or (removed_of_open (open_asked carried program store session index)) []
     Touches _ = ⊤
 
-    pub session_backs : (k : EntryKind) → is_landing k ≡ false → Touches k → Gives (BacksBy (pieces_of_lengths (map (λ (part : Added). part.rows) (parts_added k)) (unwrap_or (rows_by_session carried program contents store session index k) []))) (session_entry carried program store session index k)
+    pub session_backs : (k : EntryKind) → Touches k → Gives (BacksBy (pieces_of_lengths (map (λ (part : Added). part.rows) (parts_added k)) (unwrap_or (rows_by_session carried program contents store session index k) []))) (session_entry carried program store session index k)
     unfolding session_entry
-    session_backs (kind.Begin t) calm touches = next_backs _ (λ read due said idle. quiet_in _ (λ effect h. h) (begin_backs carried (here read) due contents backed t))
-    session_backs (kind.Start t) calm touches = next_backs _ (λ read due said idle. quiet_in _ (λ effect h. h) (start_backs carried (here read) due said contents backed guarded t))
-    session_backs (kind.End gone added) calm touches = ended_backs gone added touches
-    session_backs (kind.Abandon t) calm touches =
+    session_backs (kind.Begin t) touches = next_backs _ (λ read due said idle. quiet_in _ (λ effect h. h) (begin_backs carried (here read) due contents backed t))
+    session_backs (kind.Start t) touches = next_backs _ (λ read due said idle. quiet_in _ (λ effect h. h) (start_backs carried (here read) due said contents backed guarded t))
+    session_backs (kind.End gone added) touches = ended_backs gone added touches
+    session_backs (kind.Abandon t) touches =
         open_gives carried program store session index (BacksBy []) _ (λ state read seen at said running counted. quiet_in _ (λ effect h. h) (abandon_backs carried (here read) (due_of state read at) contents backed seen t))
-    session_backs (kind.Commit t) calm touches = next_backs _ (λ read due said idle. commit_backs carried (here read) due contents backed guarded t idle)
-    session_backs kind.Rollback calm touches =
+    session_backs (kind.Commit t) touches = next_backs _ (λ read due said idle. commit_backs carried (here read) due contents backed guarded t idle)
+    session_backs kind.Rollback touches =
         gives_or (BacksBy []) (of_next carried program store session index rollback_effect) (closing_effect program store session index)
         (next_backs rollback_effect (λ read due said idle. rollback_backs carried (here read) due contents backed guarded)) closing_backs
-    session_backs (kind.Define t) calm touches = next_backs _ (λ read due said idle. define_backs carried (here read) due said contents backed guarded t)
-    session_backs (kind.Wait t) calm touches = next_backs _ (λ read due said idle. quiet_in _ (λ effect h. h) (wait_backs carried (here read) due contents backed t))
-    session_backs (kind.Report t numbers) calm touches = next_backs _ (λ read due said idle. quiet_in _ (λ effect h. h) (report_backs carried (here read) due contents backed t numbers))
-    session_backs (kind.RecluStart table parts) calm touches = tt
-    session_backs (kind.RecluEnd table gone added) calm touches = tt
-    session_backs (kind.RecluMiss table why) calm touches = tt
-    session_backs (kind.Purge parts) calm touches = tt
-    session_backs kind.Close calm touches = tt
+    session_backs (kind.Define t) touches = next_backs _ (λ read due said idle. define_backs carried (here read) due said contents backed guarded t)
+    session_backs (kind.Wait t) touches = next_backs _ (λ read due said idle. quiet_in _ (λ effect h. h) (wait_backs carried (here read) due contents backed t))
+    session_backs (kind.Report t numbers) touches = next_backs _ (λ read due said idle. quiet_in _ (λ effect h. h) (report_backs carried (here read) due contents backed t numbers))
+    session_backs (kind.RecluStart table parts) touches = tt
+    session_backs (kind.RecluEnd table gone added) touches = tt
+    session_backs (kind.RecluMiss table why) touches = tt
+    session_backs (kind.Purge parts) touches = tt
+    session_backs kind.Close touches = tt

@@ -1,5 +1,5 @@
--- After each legal history in which no round has landed the contents of the parts form the bags.
-use Rattle.std.specs.Prelude.{List, None, Option, Some, [], false, fold, map, refl, slice_get, unwrap_or, ℕ, ◌++◌, ◌==◌, ◌∷◌, ◌≡◌}
+-- After each legal history the contents of the parts form the bags.
+use Rattle.std.specs.Prelude.{List, None, Option, Some, [], fold, map, refl, slice_get, unwrap_or, ℕ, ◌++◌, ◌==◌, ◌∷◌, ◌≡◌}
 use Rattle.std.proofs.Common.{ap, arith, subst, suc, sym, zero, ◌∙◌}
 use Rattle.std.proofs.lemmas.Bool.{false≢true}
 use Rattle.std.proofs.lemmas.Option.{none-some, same_Some}
@@ -32,7 +32,7 @@ use Rattle.tt_plain_laws.proofs.guard.Entries.{entries_keep}
 use Rattle.tt_plain_laws.proofs.guard.Histories.{empty_guarded}
 use Rattle.tt_plain_laws.proofs.parts.Backed.{AreBacked, bags_formed}
 use Rattle.tt_plain_laws.proofs.parts.Entries.{Touches, purge_backs, round_backs, session_backs}
-use Rattle.tt_plain_laws.specs.Bags.{HasNoLanding, LegalFormsBags, is_landing}
+use Rattle.tt_plain_laws.specs.Bags.{LegalFormsBags}
 use Rattle.tt_plain_laws.specs.Guarded.{AreGuarded}
 use Rattle.tt_history.specs.declared.history.Actor.TheVariants as actor
 use Rattle.tt_history.specs.declared.history.EntryKind.TheVariants as kind
@@ -61,20 +61,20 @@ module _ (carried : Carried) (program : Script) (store : Plain) (contents : List
   touches entry session who (kind.Purge parts) removed = tt
   touches entry session who kind.Close removed = tt
 
-  actor_backs : (entry : Entry) (who : Actor) → entry.actor ≡ who → is_landing entry.kind ≡ false → RemovesTouched carried program contents store entry entry.kind
+  actor_backs : (entry : Entry) (who : Actor) → entry.actor ≡ who → RemovesTouched carried program contents store entry entry.kind
       → Gives (BacksEntry entry who) (actor_entry carried program store who entry.index entry.kind)
-  actor_backs entry (actor.Session session) is calm removed = session_backs carried program store contents sound backed guarded session entry.index entry.kind calm (touches entry session is entry.kind removed)
-  actor_backs entry actor.Recluster is calm removed = round_backs carried program store contents sound backed guarded entry.index entry.kind calm
-  actor_backs entry actor.Purge is calm removed = purge_backs carried program store contents sound backed guarded entry.index entry.kind calm
+  actor_backs entry (actor.Session session) is removed = session_backs carried program store contents sound backed guarded session entry.index entry.kind (touches entry session is entry.kind removed)
+  actor_backs entry actor.Recluster is removed = round_backs carried program store contents sound backed guarded entry.index entry.kind
+  actor_backs entry actor.Purge is removed = purge_backs carried program store contents sound backed guarded entry.index entry.kind
 
-  pub entry_backs : (entry : Entry) (effect : Effect) → effect_of carried program store entry ≡ Some effect → IsSoundEffect carried program store effect → is_landing entry.kind ≡ false
+  pub entry_backs : (entry : Entry) (effect : Effect) → effect_of carried program store entry ≡ Some effect → IsSoundEffect carried program store effect
       → RemovesTouched carried program contents store entry entry.kind → AreBacked carried program (contents_with carried program contents (store, entry)) (applied store effect)
   unfolding effect_of contents_with
-  entry_backs entry effect e good calm removed =
+  entry_backs entry effect e good removed =
       let found = bind_some (actor_entry carried program store entry.actor entry.index entry.kind) _ effect e in
       let same = only_if_some (found.0.moment == entry.moment) found.0 effect found.2 in
       subst (BacksEntry entry entry.actor) same.1
-      (gives_at (BacksEntry entry entry.actor) (actor_entry carried program store entry.actor entry.index entry.kind) found.0 (actor_backs entry entry.actor refl calm removed) found.1) good
+      (gives_at (BacksEntry entry entry.actor) (actor_entry carried program store entry.actor entry.index entry.kind) found.0 (actor_backs entry entry.actor refl removed) found.1) good
 
 -- ---- contents of one more entry
 
@@ -111,6 +111,7 @@ empty_backed carried program = record {
   placed = tt;
   empty = λ session state at none table. refl;
   balanced = λ session state at table first within. absurd (omega (arith, first, within));
+  round = λ round e. absurd (none-some round e);
   apart = λ a b table other k e. absurd (false≢true e);
   pinned = λ session state at seen read running said. absurd (none-some seen (sym (idle program.sessions session state at) ∙ running));
 }
@@ -127,22 +128,15 @@ record IsKept (carried : Carried) (program : Script) (before : List Entry) (stor
   store_is : store_after carried program before ≡ store
   backed : AreBacked carried program (contents_of carried program before) store
 
-calm_at : (before later : List Entry) (entry : Entry) (history : List Entry) → HasNoLanding history → history ≡ before ++ entry ∷ later → is_landing entry.kind ≡ false
-calm_at before later entry history calm is = by before (subst HasNoLanding is calm)
-  where
-    by : (first : List Entry) → HasNoLanding (first ++ entry ∷ later) → is_landing entry.kind ≡ false
-    by [] all = all.0
-    by (e ∷ first) all = by first all.1
-
 pub legal_bags : LegalFormsBags
 unfolding contents_of pairs_of store_after
-legal_bags carried program history run time replayed removed calm =
+legal_bags carried program history run time replayed removed =
     let kept : IsKept carried program history run.0 =
     by_entries carried program history time (IsKept carried program)
     (λ before store entry effect there holds.
     let touched : RemovesTouched carried program (contents_of carried program before) store entry entry.kind =
     subst (λ (s : Plain). RemovesTouched carried program (contents_of carried program before) s entry entry.kind) holds.store_is (removed before entry there.later there.whole) in
-    let backed = entry_backs carried program store (contents_of carried program before) there.sound holds.backed holds.guarded entry effect there.effected there.good (calm_at before there.later entry history calm there.whole) touched in
+    let backed = entry_backs carried program store (contents_of carried program before) there.sound holds.backed holds.guarded entry effect there.effected there.good touched in
     record {
       guarded = entries_keep carried program store entry effect there.sound there.effected holds.guarded;
       store_is = store_next carried program before entry store (applied store effect, there.stepped.0) holds.store_is there.stepped.1;

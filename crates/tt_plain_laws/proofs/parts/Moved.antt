@@ -62,6 +62,7 @@ pub record IsMoved (carried : Carried) (program : Script) (contents more : List 
   pub ended : (table : ℕ) → lists_of (applied store effect).tally session table ≡ None
   pub others : (other table : ℕ) → (other ≡ session → ⊥) → lists_of (applied store effect).tally other table ≡ lists_of store.tally other table
   pub placed : Every (λ (lists : TallyPending). lists.table ≤ length store.tables) (applied store effect).tally.pending
+  pub round : (applied store effect).tally.round ≡ store.tally.round
   pub pins : (other : ℕ) → (other ≡ session → ⊥) → pins_of (applied store effect).tally other ≡ pins_of store.tally other
   pub balanced : (table : ℕ) → 1 ≤ table → table ≤ length store.tables →
       IsBalanced (contents ++ more) (current_parts store.tally table) (found_for lists_key (none_for session) ls table) (found_for pending_key nothing_pending ps table)
@@ -159,6 +160,7 @@ module _ (carried : Carried) (program : Script) (contents more : List (List Row)
         subst (λ (n : ℕ). IsBalanced (contents ++ more) (current_parts next.tally table) (lists_now next.tally n table) (pending_now new table)) (sym own.0) (own_balanced new own.1 table))
         (λ other state at apart table first within. other_balanced other state at (other_is other apart) table first (omega (arith, within, moved.many)));
     apart = lists_apart;
+    round = λ round e. omega (arith, backed.round round (sym moved.round ∙ e), moved.many);
     pinned = each_session store effect (λ other new. IsPinned carried program (contents ++ more) next.tally other new)
         (λ other new e seen read running said. absurd (none-some seen (sym (moved.own other new e).2 ∙ running)))
         (λ other state at apart. pinned_other carried program contents more store effect sound backed other state at (moved.pins other (other_is other apart)));

@@ -1,5 +1,5 @@
 -- Effects that change no row and no part of any table keep the contents and the store backed.
-use Rattle.std.specs.Prelude.{Bool, List, None, Option, Some, [], false, find, fold, if◌then◌else◌, length, map, option_map, refl, slice_get, true, unwrap_or, ℕ, ⊤, ◌++◌, ◌-◌, ◌==◌, ◌∷◌, ◌≡◌, ◌≤◌}
+use Rattle.std.specs.Prelude.{Bool, List, None, Option, Some, [], false, find, fold, if◌then◌else◌, length, map, option_map, refl, slice_get, true, unwrap_or, ℕ, ⊤, ◌++◌, ◌-◌, ◌==◌, ◌∷◌, ◌<◌, ◌≡◌, ◌≤◌}
 use Rattle.std.proofs.Common.{ap, arith, length-append, subst, sym, ◌∙◌}
 use Rattle.std.proofs.lemmas.List.{length-map}
 use Rattle.std.proofs.lemmas.Option.{slice_get-map}
@@ -15,6 +15,7 @@ use Rattle.tt_plain.specs.declared.store.PlainPending.{PlainPending}
 use Rattle.tt_plain.specs.declared.tally.TallyPending.{TallyPending}
 use Rattle.tt_plain.specs.effect.End.{nothing_pending}
 use Rattle.tt_plain.specs.tally.Pending.{no_lists}
+use Rattle.tt_plain.specs.declared.tally.TallyRound.{TallyRound}
 use Rattle.tt_plain.specs.effect.Apply.{applied, changed_table, renamed}
 use Rattle.tt_plain.specs.effect.Effect.{Dropped, Effect, Made, NewKey, NewRegime, NewVersion, Renamed, Suspended, TableChange, Undropped}
 use Rattle.tt_plain.specs.law.Bag.{pins_of}
@@ -127,6 +128,7 @@ pub record IsQuiet (carried : Carried) (program : Script) (contents : List (List
   pub known : Every (KnownChange (length (contents ++ []))) effect.tally
   pub own : (session : ℕ) (new : PlainSession) → effect.session ≡ Some (session, new) → (state : PlainSession) × (slice_get store.sessions session ≡ Some state) × (new.pending ≡ state.pending)
   pub pinned : (session : ℕ) (new : PlainSession) → effect.session ≡ Some (session, new) → IsPinned carried program (contents ++ []) (applied store effect).tally session new
+  pub round : (round : TallyRound) → (applied store effect).tally.round ≡ Some round → round.table - 1 < length store.tables
   pub others : (other : ℕ) → ((new : PlainSession) → effect.session ≡ Some (other, new) → ⊥) → pins_of (applied store effect).tally other ≡ pins_of store.tally other
 
 module _ (carried : Carried) (program : Script) (contents : List (List Row)) (store : Plain) (effect : Effect) (sound : IsSound carried program store) (backed : AreBacked carried program contents store)
@@ -183,6 +185,7 @@ module _ (carried : Carried) (program : Script) (contents : List (List Row)) (st
         (λ other state at apart. balanced_by other state state at refl);
     apart = λ a b table other. subst (λ (l : TallyPending). Outside l.added (lists_now next.tally b table).added) (sym (same_lists a table))
         (subst (λ (l : TallyPending). Outside (lists_now store.tally a table).added l.added) (sym (same_lists b table)) (backed.apart a b table other));
+    round = λ round e. omega (arith, quiet.round round e, same_many);
     pinned = each_session store effect (λ session new. IsPinned carried program (contents ++ []) next.tally session new)
         (λ session new e. quiet.pinned session new e)
         (λ other state at apart. pinned_other carried program contents [] store effect sound backed other state at (quiet.others other apart));

@@ -57,9 +57,10 @@ module _ (carried : Carried) (asked : Asked) (due : IsDue carried asked) (conten
       → Every IsQuietChange tables → IsQuietTally asked.store.tally (fold changed_tally asked.store.tally tally) → Every (KnownChange (length (contents ++ []))) tally → new.pending ≡ (state_asked asked).pending
       → IsPinned carried asked.program (contents ++ []) (fold changed_tally asked.store.tally tally) asked.session new
       → ((other : ℕ) → (other ≡ asked.session → ⊥) → pins_of (fold changed_tally asked.store.tally tally) other ≡ pins_of asked.store.tally other)
+      → (fold changed_tally asked.store.tally tally).round ≡ asked.store.tally.round
       → Backs (record { session = Some (asked.session, new); tables = tables; points = points; tally = tally; moment = moment; reply = reply })
   unfolding applied
-  quiet_backs new tables points tally moment reply quiet still known same pinned others =
+  quiet_backs new tables points tally moment reply quiet still known same pinned others same_round =
       quiet_backed carried asked.program contents asked.store (record { session = Some (asked.session, new); tables = tables; points = points; tally = tally; moment = moment; reply = reply }) due.sound backed (record {
         tables = quiet;
         tally = still;
@@ -70,6 +71,7 @@ module _ (carried : Carried) (asked : Asked) (due : IsDue carried asked) (conten
           ap (λ (c : ℕ × PlainSession). c.1.pending) (sym both) ∙ same,
         );
         pinned = λ session n e. subst (λ (c : ℕ × PlainSession). IsPinned carried asked.program (contents ++ []) (fold changed_tally asked.store.tally tally) c.0 c.1) (same_Some (asked.session, new) (session, n) e) pinned;
+        round = λ round e. backed.round round (sym same_round ∙ e);
         others = λ other apart. others other (λ e. apart new (ap (λ (n : ℕ). Some (n, new)) (sym e)));
       })
 
@@ -80,14 +82,14 @@ module _ (carried : Carried) (asked : Asked) (due : IsDue carried asked) (conten
   pub alone_backs : (new : PlainSession) (tables : List TableChange) (points : List (ℕ × ℕ)) (moment : ℕ) (reply : Option Reply) → Every IsQuietChange tables → new.pending ≡ (state_asked asked).pending → new.running ≡ None
       → Backs (record { session = Some (asked.session, new); tables = tables; points = points; tally = []; moment = moment; reply = reply })
   alone_backs new tables points moment reply quiet same idle =
-      quiet_backs new tables points [] moment reply quiet (same_quiet asked.store.tally asked.store.tally refl refl refl) tt same (none_running [] new idle) (λ other apart. refl)
+      quiet_backs new tables points [] moment reply quiet (same_quiet asked.store.tally asked.store.tally refl refl refl) tt same (none_running [] new idle) (λ other apart. refl) refl
 
   -- or just the pins of the session go
   pub unpinned_backs : (new : PlainSession) (points : List (ℕ × ℕ)) (moment : ℕ) (reply : Option Reply) → new.pending ≡ (state_asked asked).pending → new.running ≡ None
       → Backs (record { session = Some (asked.session, new); tables = []; points = points; tally = Unpins asked.session ∷ []; moment = moment; reply = reply })
   unpinned_backs new points moment reply same idle =
       quiet_backs new [] points (Unpins asked.session ∷ []) moment reply tt (same_quiet asked.store.tally (changed_tally asked.store.tally (Unpins asked.session)) refl refl refl) (tt, tt) same
-      (none_running (Unpins asked.session ∷ []) new idle) (λ other apart. pins_other asked.session [] asked.store.tally.pins tt other apart)
+      (none_running (Unpins asked.session ∷ []) new idle) (λ other apart. pins_other asked.session [] asked.store.tally.pins tt other apart) refl
 
   -- ---- statements that end
 

@@ -60,13 +60,13 @@ use Rattle.tt_history.specs.declared.reply.Refusal.TheVariants as refusal
 
 -- ---- points are not before the making of their tables
 
-nothing_first : {A : Type 0} (items : List (Option A)) (place : ℕ) (item : Option A) → first_some items ≡ None → slice_get items place ≡ Some item → item ≡ None
+pub nothing_first : {A : Type 0} (items : List (Option A)) (place : ℕ) (item : Option A) → first_some items ≡ None → slice_get items place ≡ Some item → item ≡ None
 nothing_first [] place item none at = absurd (none-some item at)
 nothing_first (None ∷ items) zero item none at = sym (same_Some None item at)
 nothing_first (None ∷ items) (suc place) item none at = nothing_first items place item none at
 nothing_first (Some x ∷ items) place item none at = absurd (none-some x (sym none))
 
-no_head : {A B : Type 0} (f : A → B) (xs : List A) → option_map f (head_of xs) ≡ None → xs ≡ []
+pub no_head : {A B : Type 0} (f : A → B) (xs : List A) → option_map f (head_of xs) ≡ None → xs ≡ []
 no_head f [] e = refl
 no_head f (x ∷ xs) e = absurd (none-some (f x) (sym e))
 
@@ -224,7 +224,7 @@ module _ (carried : Carried) (asked : Asked) (due : IsDue carried asked) (said :
       (subst (λ (s : PlainOpen). AllZip (PinForms (contents ++ [])) (seen_in_pins (request_asked asked) s) (pins_of (changed_tally asked.store.tally (Pins asked.session pins)) asked.session)) is
       (subst (AllZip (PinForms (contents ++ [])) (seen_in_pins (request_asked asked) seen)) (sym (pins_own asked.session pins asked.store.tally.pins (own_sessions pins good)))
       (zip_more contents [] (seen_in_pins (request_asked asked) seen) pins (fewer pins known) forms))))
-      (λ other apart. pins_other asked.session pins asked.store.tally.pins (own_sessions pins good) other apart)
+      (λ other apart. pins_other asked.session pins asked.store.tally.pins (own_sessions pins good) other apart) refl
 
   query_begun : (q : Query) → request_asked asked ≡ Reads q → refusal_of asked ≡ None → Gives BacksAll (option_map (λ new. begun asked new (source_pins asked (query_sources q))) (query_opened asked q))
   unfolding query_opened
