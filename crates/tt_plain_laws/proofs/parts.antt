@@ -1,24 +1,15 @@
--- The contents of the parts form the bags of the store.
+-- The contents of the parts form the bags of the store: what is so of both, and how an effect keeps it.
 pub mod Added
 pub mod After
 pub mod Backed
 pub mod Balance
-pub mod Changes
-pub mod Commits
 pub mod Contents
 pub mod Cuts
-pub mod Defines
-pub mod Ends
-pub mod Entries
-pub mod Histories
 pub mod Known
-pub mod Landing
 pub mod Moved
 pub mod Numbers
 pub mod Places
 pub mod Quiet
-pub mod Sessions
-pub mod Starts
 pub mod Step
 pub mod Sums
 pub mod Views

@@ -22,7 +22,7 @@ use Rattle.tt_plain_laws.proofs.parts.Added.{total_added}
 use Rattle.tt_plain_laws.proofs.parts.Backed.{Measured}
 use Rattle.tt_plain_laws.proofs.parts.Balance.{Hold, hold_from}
 use Rattle.tt_plain_laws.proofs.parts.Contents.{Known}
-use Rattle.tt_plain_laws.proofs.parts.Ends.{IsCut}
+use Rattle.tt_plain_laws.proofs.entry.Ends.{IsCut}
 use Rattle.tt_plain_laws.proofs.parts.Numbers.{copies_in, has_itself, has_more}
 use Rattle.tt_plain_laws.proofs.parts.Sums.{copies-replaced, is_touched, length-replaced, replaced, same_flat, same_flat_length, same_length, same_taken, touched_hold}
 

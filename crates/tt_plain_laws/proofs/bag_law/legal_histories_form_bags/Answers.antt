@@ -1,5 +1,5 @@
 use Rattle.tt_plain_laws.proofs.bag_law.legal_histories_form_bags.Goals as goal
-use Rattle.tt_plain_laws.proofs.parts.Histories.{legal_bags}
+use Rattle.tt_plain_laws.proofs.entry.Histories.{legal_bags}
 
 pub returns : goal.returns
 returns c = legal_bags

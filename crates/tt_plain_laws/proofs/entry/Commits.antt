@@ -55,7 +55,7 @@ use Rattle.tt_plain_laws.proofs.parts.Known.{KnownChange, KnownLists, known_curr
 use Rattle.tt_plain_laws.proofs.parts.Moved.{IsMoved, moved_backed}
 use Rattle.tt_plain_laws.proofs.parts.Numbers.{Outside, within_changed}
 use Rattle.tt_plain_laws.proofs.parts.Places.{lists_ended, lists_other}
-use Rattle.tt_plain_laws.proofs.parts.Sessions.{Backs, memory_backs}
+use Rattle.tt_plain_laws.proofs.entry.Sessions.{Backs, memory_backs}
 use Rattle.tt_plain_laws.specs.Guarded.{AreGuarded, IsGuarded}
 use Rattle.tt_plain.specs.asked.Event as event
 use Rattle.tt_history.specs.declared.reply.Reply.TheVariants as reply

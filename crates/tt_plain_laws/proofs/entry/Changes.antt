@@ -40,9 +40,9 @@ use Rattle.tt_plain_laws.proofs.parts.Added.{contents_added}
 use Rattle.tt_plain_laws.proofs.parts.Backed.{AreBacked}
 use Rattle.tt_plain_laws.proofs.parts.Contents.{Known}
 use Rattle.tt_plain_laws.proofs.parts.Cuts.{added_cut, nil_of, one_pinned, replaced_cut, some_all}
-use Rattle.tt_plain_laws.proofs.parts.Ends.{IsCut, changed_backs, removable}
-use Rattle.tt_plain_laws.proofs.parts.Sessions.{answered_backs}
-use Rattle.tt_plain_laws.proofs.parts.Starts.{seen_known}
+use Rattle.tt_plain_laws.proofs.entry.Ends.{IsCut, changed_backs, removable}
+use Rattle.tt_plain_laws.proofs.entry.Sessions.{answered_backs}
+use Rattle.tt_plain_laws.proofs.entry.Starts.{seen_known}
 use Rattle.tt_plain_laws.specs.Guarded.{AreGuarded}
 use Rattle.tt_sql.specs.declared.change.Dml.TheVariants as dml
 

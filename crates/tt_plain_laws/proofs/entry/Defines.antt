@@ -63,13 +63,13 @@ use Rattle.tt_plain_laws.proofs.guard.Kept.{are_numbered}
 use Rattle.tt_plain_laws.proofs.parts.After.{current_in, layout_here, layout_there}
 use Rattle.tt_plain_laws.proofs.parts.Backed.{AreBacked, IsPinned, current_hold}
 use Rattle.tt_plain_laws.proofs.parts.Balance.{Hold, IsBalanced, hold_from, lists_now, none_balanced, pending_now}
-use Rattle.tt_plain_laws.proofs.parts.Commits.{holder_of, measured_same, no_more}
+use Rattle.tt_plain_laws.proofs.entry.Commits.{holder_of, measured_same, no_more}
 use Rattle.tt_plain_laws.proofs.parts.Contents.{Known, known_more, seam_get, same_contents}
 use Rattle.tt_plain_laws.proofs.parts.Known.{known_current}
 use Rattle.tt_plain_laws.proofs.parts.Numbers.{Outside, copies_in}
 use Rattle.tt_plain_laws.proofs.parts.Places.{key_of}
 use Rattle.tt_plain_laws.proofs.parts.Quiet.{IsQuietChange, quiet_fold, quiet_many}
-use Rattle.tt_plain_laws.proofs.parts.Starts.{IsMade, all_made, parts_known, source_forms}
+use Rattle.tt_plain_laws.proofs.entry.Starts.{IsMade, all_made, parts_known, source_forms}
 use Rattle.tt_plain.specs.declared.store.Version.{Version}
 use Rattle.std.specs.List.{last_or}
 use Rattle.tt_plain.specs.stored.Tables.{rows_of}
@@ -77,10 +77,10 @@ use Rattle.std.specs.Prelude.{is_none}
 use Rattle.tt_plain.proofs.law.Gives.{gives_if, gives_on}
 use Rattle.tt_plain.specs.effect.Ending.{refused_effect, told_effect}
 use Rattle.tt_plain.proofs.Tests.{none_is}
-use Rattle.tt_plain_laws.proofs.parts.Sessions.{refused_backs}
+use Rattle.tt_plain_laws.proofs.entry.Sessions.{refused_backs}
 use Rattle.tt_layout.specs.Chain as chain
 use Rattle.tt_history.specs.declared.history.Told.TheVariants as told
-use Rattle.tt_plain_laws.proofs.parts.Sessions.{Backs, alone_backs, memory_backs}
+use Rattle.tt_plain_laws.proofs.entry.Sessions.{Backs, alone_backs, memory_backs}
 use Rattle.tt_plain_laws.proofs.parts.Step.{balanced_still, each_session, known_next, layouts_moved, pinned_other}
 use Rattle.tt_plain_laws.specs.Guarded.{AreGuarded, IsGuarded}
 use Rattle.tt_plain.specs.asked.Event as event

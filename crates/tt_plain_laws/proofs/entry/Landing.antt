@@ -53,13 +53,13 @@ use Rattle.tt_plain_laws.proofs.parts.Added.{contents_added, get_some, grown_len
 use Rattle.tt_plain_laws.proofs.parts.After.{AreLaid, OnlyLayouts, fold_tally-append, found_for, layouts_laid, lists_key, none_for, only_begun}
 use Rattle.tt_plain_laws.proofs.parts.Backed.{AreBacked, IsPinned, current_hold}
 use Rattle.tt_plain_laws.proofs.parts.Balance.{Hold, IsBalanced, lists_now, pending_now}
-use Rattle.tt_plain_laws.proofs.parts.Commits.{holder_of}
+use Rattle.tt_plain_laws.proofs.entry.Commits.{holder_of}
 use Rattle.tt_plain_laws.proofs.parts.Contents.{Known, known_more, same_contents, total}
 use Rattle.tt_plain_laws.proofs.parts.Cuts.{length-rows}
 use Rattle.tt_plain_laws.proofs.parts.Known.{KnownChange, known_current, known_lists}
 use Rattle.tt_plain_laws.proofs.parts.Moved.{outside_later, within_later}
 use Rattle.tt_plain_laws.proofs.parts.Numbers.{Outside, Within, copies-changed, copies_in, is_false, within_changed, without_has}
-use Rattle.tt_plain_laws.proofs.parts.Starts.{no_head, nothing_first}
+use Rattle.tt_plain_laws.proofs.entry.Starts.{no_head, nothing_first}
 use Rattle.tt_plain_laws.proofs.parts.Step.{balanced_still, each_session, known_next, layouts_moved, pinned_other}
 use Rattle.tt_plain_laws.proofs.parts.Sums.{same_length}
 use Rattle.tt_plain_laws.specs.Guarded.{AreGuarded, IsGuarded}

@@ -48,7 +48,7 @@ use Rattle.tt_plain_laws.proofs.parts.Added.{contents_added, grown_length, known
 use Rattle.tt_plain_laws.proofs.parts.After.{AreLaid, AreRisen, OnlyLayouts, fold_tally-append, found_for, layouts_laid, lists_key, none_for, only_begun, pending_key, versions_risen}
 use Rattle.tt_plain_laws.proofs.parts.Backed.{AreBacked, IsPinned, found_passes, lists_sound, seen_is}
 use Rattle.tt_plain_laws.proofs.parts.Balance.{IsBalanced, IsFurther, further_balanced, lists_now, more_balanced, none_balanced, not_none_second, pending_now}
-use Rattle.tt_plain_laws.proofs.parts.Commits.{bags_now, held_alone, none_or}
+use Rattle.tt_plain_laws.proofs.entry.Commits.{bags_now, held_alone, none_or}
 use Rattle.tt_plain_laws.proofs.parts.Contents.{Known, known_more, same_contents, total}
 use Rattle.tt_plain_laws.proofs.parts.Known.{KnownChange, known_current, known_lists}
 use Rattle.tt_plain_laws.proofs.parts.Moved.{IsMoved, moved_backed}

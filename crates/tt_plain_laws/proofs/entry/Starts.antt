@@ -50,7 +50,7 @@ use Rattle.tt_plain_laws.proofs.parts.Contents.{Known, known_more}
 use Rattle.tt_plain_laws.proofs.parts.Known.{KnownPin, known_at, known_current, known_lists}
 use Rattle.tt_plain_laws.proofs.parts.Numbers.{within_changed}
 use Rattle.tt_plain_laws.proofs.parts.Quiet.{same_quiet}
-use Rattle.tt_plain_laws.proofs.parts.Sessions.{Backs, memory_backs, quiet_backs, told_backs}
+use Rattle.tt_plain_laws.proofs.entry.Sessions.{Backs, memory_backs, quiet_backs, told_backs}
 use Rattle.tt_plain_laws.proofs.parts.Step.{zip_more}
 use Rattle.tt_plain_laws.proofs.parts.Views.{pins_other, pins_own}
 use Rattle.tt_plain_laws.specs.Guarded.{AreGuarded}

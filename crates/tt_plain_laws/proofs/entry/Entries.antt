@@ -19,7 +19,7 @@ use Rattle.tt_plain.specs.declared.store.PlainOpen.{PlainOpen}
 use Rattle.tt_plain.specs.declared.store.PlainSession.{PlainSession}
 use Rattle.tt_plain.specs.declared.tally.TallyRound.{TallyRound}
 use Rattle.tt_plain.specs.declared.tally.TallyPin.{TallyPin}
-use Rattle.tt_plain_laws.proofs.parts.Landing.{landing_backs}
+use Rattle.tt_plain_laws.proofs.entry.Landing.{landing_backs}
 use Rattle.tt_plain.specs.effect.Apply.{applied}
 use Rattle.tt_plain.specs.effect.Effect.{Effect}
 use Rattle.tt_plain.specs.effect.End.{end_effect}
@@ -42,13 +42,13 @@ use Rattle.tt_sql.specs.declared.statement.Statement.{Statement}
 use Rattle.tt_value.specs.declared.value.Row.{Row}
 use Rattle.tt_plain_laws.proofs.parts.Added.{contents_added}
 use Rattle.tt_plain_laws.proofs.parts.Backed.{AreBacked}
-use Rattle.tt_plain_laws.proofs.parts.Changes.{end_backs}
-use Rattle.tt_plain_laws.proofs.parts.Commits.{commit_backs, rollback_backs, rolled_backs}
-use Rattle.tt_plain_laws.proofs.parts.Defines.{define_backs}
+use Rattle.tt_plain_laws.proofs.entry.Changes.{end_backs}
+use Rattle.tt_plain_laws.proofs.entry.Commits.{commit_backs, rollback_backs, rolled_backs}
+use Rattle.tt_plain_laws.proofs.entry.Defines.{define_backs}
 use Rattle.tt_plain_laws.proofs.parts.Known.{KnownChange}
 use Rattle.tt_plain_laws.proofs.parts.Quiet.{IsQuietTally, quiet_backed, same_quiet, taken_quiet}
-use Rattle.tt_plain_laws.proofs.parts.Sessions.{abandon_backs, begin_backs, report_backs, wait_backs}
-use Rattle.tt_plain_laws.proofs.parts.Starts.{start_backs}
+use Rattle.tt_plain_laws.proofs.entry.Sessions.{abandon_backs, begin_backs, report_backs, wait_backs}
+use Rattle.tt_plain_laws.proofs.entry.Starts.{start_backs}
 use Rattle.tt_plain_laws.specs.Guarded.{AreGuarded}
 use Rattle.tt_history.specs.declared.history.EntryKind.TheVariants as kind
 

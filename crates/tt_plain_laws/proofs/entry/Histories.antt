@@ -31,7 +31,7 @@ use Rattle.tt_plain_laws.proofs.Inductions.{by_entries}
 use Rattle.tt_plain_laws.proofs.guard.Entries.{entries_keep}
 use Rattle.tt_plain_laws.proofs.guard.Histories.{empty_guarded}
 use Rattle.tt_plain_laws.proofs.parts.Backed.{AreBacked, bags_formed}
-use Rattle.tt_plain_laws.proofs.parts.Entries.{Touches, purge_backs, round_backs, session_backs}
+use Rattle.tt_plain_laws.proofs.entry.Entries.{Touches, purge_backs, round_backs, session_backs}
 use Rattle.tt_plain_laws.specs.Bags.{LegalFormsBags}
 use Rattle.tt_plain_laws.specs.Guarded.{AreGuarded}
 use Rattle.tt_history.specs.declared.history.Actor.TheVariants as actor
