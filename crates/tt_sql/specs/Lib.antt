@@ -1,3 +1,4 @@
+pub mod asked
 pub mod determined
 pub mod grammar
 pub mod machine

@@ -20,7 +20,8 @@ pub fn built(statement: &Statement) -> bool
     }
 }
 
-fn plain_create(table: &CreatedTable) -> bool
+/// Whether a CREATE TABLE is carried out so far: without OR REPLACE, TRANSIENT and options.
+pub fn plain_create(table: &CreatedTable) -> bool
     ensures { result ≡ is_plain_create table.now }
 {
     !table.replaces
@@ -50,7 +51,8 @@ fn values(source: &InsertSource) -> bool
     matches!(source, InsertSource::Values(_))
 }
 
-fn plain_query(query: &Query) -> bool
+/// Whether a query is carried out so far: all rows of one table as they are now.
+pub fn plain_query(query: &Query) -> bool
     ensures { result ≡ is_plain_query query.now }
 {
     star(&query.selection) && whole_table(query) && without_end(query)

@@ -6,15 +6,17 @@ pub mod change;
 pub mod examples;
 pub mod grammar_laws;
 pub mod query;
+pub mod request;
 pub mod statement;
 pub mod table;
 pub mod tree_laws;
 
-pub use carried::built;
+pub use carried::{built, plain_create, plain_query};
 pub use change::{Copy, Delete, Dml, Insert, InsertSource, Set, Tuple, Update};
 pub use query::{
     Clause, Item, Join, Key, KeyColumn, Moment, Offset, Pair, Query, Selection, Side, Source,
 };
+pub use request::{Definition, Request, Telling};
 pub use statement::{Statement, Syntax, TimeUnit, Wait};
 pub use table::{
     Alter, Change, ClonedTable, ColumnDefinition, CreatedTable, TableKind, TableOptions,

@@ -1,0 +1,2 @@
+-- What a statement asks for.
+pub mod Request
