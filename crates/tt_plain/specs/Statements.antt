@@ -1,8 +1,12 @@
 -- The statements of a program, and what becomes of each: its tree, or the place at which it is refused as Syntax.
-use Rattle.std.specs.Prelude.{ℕ, ◌-◌, Bool, true, false, not, if◌then◌else◌, Option, Result, Ok, Err}
+use Rattle.std.specs.Prelude.{◌≡◌, ℕ, ◌-◌, List, Bool, true, false, not, if◌then◌else◌, Option, Result, Ok, Err}
 use Rattle.std.specs.Option.{option_map}
 use Rattle.tt_script.specs.declared.script.Script.{Script}
 use Rattle.tt_script.specs.Program.{span_of, text_at}
+use Rattle.tt_sql.specs.declared.change.Dml.TheVariants as dml
+use Rattle.tt_sql.specs.declared.change.Insert.{Insert}
+use Rattle.tt_sql.specs.declared.change.InsertSource.TheVariants as source
+use Rattle.tt_sql.specs.declared.change.Tuple.{Tuple}
 use Rattle.tt_sql.specs.declared.statement.Statement.{Statement}
 use Rattle.tt_sql.specs.declared.statement.Statement.TheVariants as statement
 use Rattle.tt_sql.specs.text.StatementOf.{statement_of}
@@ -29,3 +33,10 @@ is_definition _ = false
 -- Every other statement begins by a start. So does a text that is none, which is refused there.
 abbrev pub is_started : Result Statement ℕ → Bool
 is_started read = not (is_definition read)
+
+-- an INSERT as a statement, and one of these written rows
+abbrev pub insertion : Insert → Statement
+insertion insert = statement.Dml (dml.Insert insert)
+
+abbrev pub InsertsTuples : Insert → List Tuple → Type 0
+InsertsTuples insert tuples = insert.source ≡ source.Values tuples

@@ -13,6 +13,7 @@ pub mod PredicateKinds
 pub mod TruthFolds
 pub mod ValueFolds
 pub mod ListLaws
+pub mod Refusals
 pub mod StoredRows
 pub mod LoneLiterals
 pub mod QueryAnswers

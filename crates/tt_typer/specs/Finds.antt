@@ -1,5 +1,5 @@
 -- The leftmost place of each refusal in a statement and in its parts.
-use Rattle.std.specs.Prelude.{ℕ, List, [], ◌++◌, Option}
+use Rattle.std.specs.Prelude.{ℕ, List, [], ◌++◌, Option, None}
 use Rattle.tt_value.specs.declared.value.Schema.{Schema}
 use Rattle.tt_value.specs.declared.name.Name.{Name}
 use Rattle.tt_value.specs.trees.Scope.{Scope}
@@ -13,6 +13,9 @@ use Rattle.tt_sql.specs.declared.change.Delete.{Delete}
 use Rattle.tt_sql.specs.declared.table.CreatedTable.{CreatedTable}
 use Rattle.tt_sql.specs.declared.table.Alter.{Alter}
 use Rattle.tt_sql.specs.declared.statement.Statement.{Statement}
+use Rattle.tt_history.specs.declared.reply.Refusal.{Refusal}
+use Rattle.tt_history.specs.declared.reply.Refusal.TheVariants.{UnknownColumn, WrongCount, TypeMismatch, NullInNotNull}
+use Rattle.tt_plain.specs.TypingRefusal.{or_else}
 use Rattle.tt_plain.specs.Places.{each, if_there, leftmost, table_begin}
 use Rattle.tt_plain.specs.UnknownColumns.{item_count, unknown_among, unknown_in_query, unknown_in_update, unknown_in_predicate, unknown_in_create, unknown_in_change, unknown_in_dml, unknown_columns}
 use Rattle.tt_plain.specs.WrongCounts.{named_again, width, miscounted_tuple, unless_equal, set_names, defined_names, miscounted_columns, miscounted_dml, wrong_counts}
@@ -67,3 +70,11 @@ dml_found schemas d = finds (unknown_in_dml schemas d) (miscounted_dml schemas d
 
 abbrev pub statement_found : List Schema → Statement → Found
 statement_found schemas s = finds (unknown_columns schemas s) (wrong_counts schemas s) (type_mismatches schemas s) (nulls_in_not_null schemas s)
+
+-- the refusal with the least number of those that are found
+abbrev pub refusal_found : Found → Option Refusal
+refusal_found found =
+    or_else UnknownColumn found.unknown
+    (or_else WrongCount found.count
+    (or_else TypeMismatch found.mismatch
+    (or_else NullInNotNull found.null None)))

@@ -50,8 +50,9 @@ fn in_query(scope: &TableScope<'_>, query: &Query) -> Found
     }
 }
 
+/// What is found in an INSERT of these written rows.
 #[tactic(auto, using(crate::proofs::Leftmost::leftmost_append))]
-fn in_values(target: &Schema, insert: &Insert, tuples: &[Tuple]) -> Found
+pub fn in_values(target: &Schema, insert: &Insert, tuples: &[Tuple]) -> Found
     ensures { result ≡ spec.insert_found target.now insert.now tuples.now }
 {
     let names = &insert.columns;
@@ -118,7 +119,8 @@ fn in_delete(schema: &Schema, delete: &Delete) -> Found
     }
 }
 
-fn in_create(create: &CreatedTable) -> Found
+/// What is found in a CREATE TABLE.
+pub fn in_create(create: &CreatedTable) -> Found
     ensures { result ≡ spec.create_found create.now }
 {
     Found {
@@ -176,7 +178,8 @@ fn in_alter(schema: &Schema, alter: &Alter) -> Found
     }
 }
 
-fn in_read(schemas: &[&Schema], query: &Query) -> Found
+/// What is found in a query over the schemas of its tables.
+pub fn in_read(schemas: &[&Schema], query: &Query) -> Found
     requires tables { length schemas.now ≡ length (query_tables query.now) }
     requires alone { query.now.joins ≡ [] }
     ensures { result ≡ spec.read_found (lent schemas.now) query.now }

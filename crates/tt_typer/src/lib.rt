@@ -16,5 +16,5 @@ mod scope;
 mod unknown;
 mod values;
 
-pub use checking::check;
+pub use checking::{check, check_create, check_query, check_values};
 pub use places::table_begin;

@@ -1,0 +1,9 @@
+use Rattle.tt_typer.specs.LentSchemas.{lent}
+use Rattle.tt_typer.proofs.Refusals.{free, refused}
+use Rattle.tt_typer.proofs.checking.check.Goals as goal
+
+pub returns-clause-ok : goal.returns-clause-ok
+returns-clause-ok c = free c.first_refusal.result c.in_statement.result (lent c.args.schemas.now) c.args.statement.now c.in_statement.ensures c.first_refusal.ensures.ok
+
+pub returns-clause-refused : goal.returns-clause-refused
+returns-clause-refused c = refused c.first_refusal.result c.in_statement.result (lent c.args.schemas.now) c.args.statement.now c.in_statement.ensures c.first_refusal.ensures.refused
