@@ -22,8 +22,10 @@ pub(crate) fn row_of(
 ) -> Result<Row, StagedError>
     requires { length columns.now < 2 ^ 32 }
     ensures row { IfOk result (λ row. row ≡ row_of_record columns.now (fields_of fields.now)) }
-    ensures sound { IfOk result (λ _. record_fault columns.now number (fields_of fields.now) ≡ None) }
-    ensures refused { IfErr result (RefusesAs (record_fault columns.now number (fields_of fields.now))) }
+    ensures sound { IfOk result
+        (λ _. record_fault columns.now number (fields_of fields.now) ≡ None) }
+    ensures refused { IfErr result
+        (RefusesAs (record_fault columns.now number (fields_of fields.now))) }
 {
     if fields.len() != columns.len() {
         return Err(StagedError::Refused(Refusal::BadData(number, 0)));
@@ -52,9 +54,12 @@ fn cell(
     place: u32,
     field: &str,
 ) -> Result<Value, StagedError>
-    ensures value { IfOk result (λ value. value ≡ value_or_null (field_value column.now.kind field.now)) }
-    ensures sound { IfOk result (λ _. field_fault number place column.now (field_value column.now.kind field.now) ≡ None) }
-    ensures refused { IfErr result (RefusesAs (field_fault number place column.now (field_value column.now.kind field.now))) }
+    ensures value { IfOk result
+        (λ value. value ≡ value_or_null (field_value column.now.kind field.now)) }
+    ensures sound { IfOk result
+        (λ _. field_fault number place column.now (field_value column.now.kind field.now) ≡ None) }
+    ensures refused { IfErr result (RefusesAs
+        (field_fault number place column.now (field_value column.now.kind field.now))) }
 {
     match value_of(alloc, column.kind, field)? {
         None => Err(StagedError::Refused(Refusal::BadData(number, place))),

@@ -46,9 +46,12 @@ fn add_row(
 ) -> Result<(), StagedError>
     requires few { length rows.old.items + 1 < 2 ^ 32 }
     requires columns { length columns.now < 2 ^ 32 }
-    ensures row { OnOk result (rows.new.items ≡ rows.old.items ++ row_of_record columns.now (fields_of fields.now) ∷ []) }
-    ensures sound { OnOk result (record_fault columns.now (length rows.old.items + 1) (fields_of fields.now) ≡ None) }
-    ensures refused { IfErr result (RefusesAs (record_fault columns.now (length rows.old.items + 1) (fields_of fields.now))) }
+    ensures row { OnOk result (rows.new.items
+        ≡ rows.old.items ++ row_of_record columns.now (fields_of fields.now) ∷ []) }
+    ensures sound { OnOk result
+        (record_fault columns.now (length rows.old.items + 1) (fields_of fields.now) ≡ None) }
+    ensures refused { IfErr result (RefusesAs
+        (record_fault columns.now (length rows.old.items + 1) (fields_of fields.now))) }
 {
     let number = rows.len() as u32 + 1;
     let row = match row_of(alloc, columns, number, fields) {
