@@ -1,5 +1,6 @@
 pub mod AcceptedInserts
 pub mod Digits
+pub mod Requests
 pub mod RunLaws
 pub mod Starts
 pub mod Texts

@@ -14,12 +14,12 @@ use Rattle.tt_plain.specs.Store.{empty_store, new_session}
 use Rattle.tt_plain.specs.Replay.{replay_of, replay_from, all_done, is_done}
 use Rattle.tt_plain.proofs.SerialOrder.{serial_empty}
 use Rattle.tt_plain.specs.Turns.{IsIdle}
-use Rattle.tt_state.specs.Book.{Book}
+use Rattle.tt_state.specs.Chronicle.{Chronicle}
 use Rattle.tt_run.specs.Turns.{HasReplies, InTurn, KeepsOthers, AreDone, AreNew}
 
 -- ---- the beginning
 
-pub begun : (book : Book) (program : Script) → book.program ≡ program → book.history ≡ [] → book.store ≡ empty_store program → HasReplies book []
+pub begun : (book : Chronicle) (program : Script) → book.program ≡ program → book.history ≡ [] → book.store ≡ empty_store program → HasReplies book []
 unfolding replay_of replay_from
 begun book program p h s = record { told = []; run = rw (p, h, s) refl; given = refl }
 
@@ -32,7 +32,7 @@ empty_idle : (program : Script) (session : ℕ) → session < length program.ses
 unfolding empty_store
 empty_idle program session less = new_at program.sessions session less
 
-pub all_new : (book : Book) (program : Script) → book.program ≡ program → book.history ≡ [] → book.store ≡ empty_store program → AreNew book 0
+pub all_new : (book : Chronicle) (program : Script) → book.program ≡ program → book.history ≡ [] → book.store ≡ empty_store program → AreNew book 0
 all_new book program p h s =
     rw (p, h, s) (record {
       idle = λ session _ less. empty_idle program session less;
@@ -46,7 +46,7 @@ none_done program store = λ session lines less at. absurd (omega (arith, less))
 -- ---- a session's turn
 
 -- behind a session's turn the later ones are new
-pub next_new : (old new : Book) (session : ℕ) → new.program ≡ old.program → AreNew old session → InTurn new session → KeepsOthers old.store new.store session → AreNew new (session + 1)
+pub next_new : (old new : Chronicle) (session : ℕ) → new.program ≡ old.program → AreNew old session → InTurn new session → KeepsOthers old.store new.store session → AreNew new (session + 1)
 next_new old new session same before turn others =
     record {
       idle = λ later from known. others later (λ e. omega (arith, e, from)) ∙ before.idle later (omega (arith, from)) (subst (λ p. later < length p.sessions) same known);

@@ -11,12 +11,7 @@ use Rattle.tt_value.specs.declared.name.TableName.{TableName}
 use Rattle.tt_script.specs.declared.script.Script.{Script}
 use Rattle.tt_script.specs.Program.{span_of, text_at}
 use Rattle.tt_sql.specs.declared.change.Insert.{Insert}
-use Rattle.tt_sql.specs.declared.change.Dml.{Dml}
-use Rattle.tt_sql.specs.declared.query.Query.{Query}
-use Rattle.tt_sql.specs.declared.table.CreatedTable.{CreatedTable}
-use Rattle.tt_sql.specs.declared.change.Dml.TheVariants as dml
 use Rattle.tt_sql.specs.declared.statement.Statement.{Statement}
-use Rattle.tt_sql.specs.declared.statement.Statement.TheVariants as statement
 use Rattle.tt_sql.specs.trees.Built.{built}
 use Rattle.tt_sql.specs.trees.Statements.{IsWrittenStatement}
 use Rattle.tt_sql.specs.text.StatementOf.{most_levels, statement_of}
@@ -30,7 +25,6 @@ use Rattle.tt_plain.specs.declared.plain.Plain.{Plain}
 use Rattle.tt_plain.specs.declared.plain.PlainTable.{PlainTable}
 use Rattle.tt_plain.specs.Answers.{◌>>=◌, only_if}
 use Rattle.tt_plain.proofs.Answers.{bind_some, map_some, only_if_some}
-use Rattle.tt_plain.specs.Carried.{IsCarried, creates, inserts, queries}
 use Rattle.tt_plain.proofs.Carried.{carried_built}
 use Rattle.tt_plain.specs.NamedTables.{live_at}
 use Rattle.tt_history.specs.Refusals.{refusal_number}
@@ -38,7 +32,7 @@ use Rattle.tt_plain.specs.Refusals.{refusal_in, refusal_of, refusal_over}
 use Rattle.tt_plain.proofs.Refusals.{insert_on_table, known_on_table}
 use Rattle.tt_plain.specs.Replay.{step_of}
 use Rattle.tt_plain.specs.StartEntry.{start_step, start_told}
-use Rattle.tt_plain.specs.Statements.{is_started, carried_out, statement_at, carried_at}
+use Rattle.tt_plain.specs.Statements.{insertion, is_started, carried_out, statement_at, carried_at}
 use Rattle.tt_plain.specs.NextEntry.{entry_at}
 use Rattle.tt_plain.proofs.Sound.{legal_sound}
 use Rattle.tt_plain.specs.SoundStore.{HaveNamedColumns}
@@ -46,7 +40,7 @@ use Rattle.tt_plain.specs.Store.{live_table, next_statement, with_ended}
 use Rattle.tt_plain.proofs.Turns.{next_is}
 use Rattle.tt_plain.specs.ValueKinds.{IsFoundByName}
 use Rattle.tt_state.specs.declared.ticket.Ticket.{Ticket}
-use Rattle.tt_state.specs.Book.{Book}
+use Rattle.tt_state.specs.Chronicle.{Chronicle}
 use Rattle.tt_state.specs.Tickets.{SeesTables, written_table}
 use Rattle.tt_run.specs.InsertedRows.{IsFor}
 use Rattle.tt_run.specs.Turns.{IsReplayed}
@@ -123,40 +117,18 @@ live_named tables name table named found = live_in tables name.name.text table n
 
 -- ---- an INSERT that has begun
 
-pub is_for : (old : Book) (new : Plain) (session index : ℕ) (whole : Statement) (insert : Insert) (ticket : Ticket) (t : Told) → IsReplayed old → next_statement old.program old.store session index ≡ Some (Ok whole) → whole ≡ statement.Dml (dml.Insert insert) → step_of old.program old.store (entry_at old.store session index (kind.Start t)) ≡ Some (new, None) → SeesTables old.store.tables whole ticket.sources.items ticket.target → IsFor ticket insert
-is_for old new session index whole insert ticket t replayed next is step sees =
-    let tree = statement.Dml (dml.Insert insert) in
-    let next_insert : next_statement old.program old.store session index ≡ Some (Ok tree) = subst (λ (s : Statement). next_statement old.program old.store session index ≡ Some (Ok s)) is next in
-    let seen = subst (λ (s : Statement). SeesTables old.store.tables s ticket.sources.items ticket.target) is sees in
-    let plain : built tree ≡ true = carried_built tree (next_is old.program old.store session index (Ok tree) next_insert).carried in
-    let free : refusal_over old.store.tables tree ≡ None = started_free old.program old.store new session index (Ok tree) t next_insert step in
+pub is_for : (old : Chronicle) (new : Plain) (session index : ℕ) (insert : Insert) (ticket : Ticket) (t : Told) → IsReplayed old → next_statement old.program old.store session index ≡ Some (Ok (insertion insert)) → step_of old.program old.store (entry_at old.store session index (kind.Start t)) ≡ Some (new, None) → SeesTables old.store.tables (insertion insert) ticket.sources.items ticket.target → IsFor ticket insert
+is_for old new session index insert ticket t replayed next step seen =
+    let tree = insertion insert in
+    let plain : built tree ≡ true = carried_built tree (next_is old.program old.store session index (Ok tree) next).carried in
+    let free : refusal_over old.store.tables tree ≡ None = started_free old.program old.store new session index (Ok tree) t next step in
     let known = known_on_table old.store.tables tree insert.table seen.0 (insert_on_table insert plain) seen.1 in (
       written_table seen.0,
       seen.3,
       record {
         values = plain;
-        written = (next_written old.program old.store session index tree next_insert).2;
+        written = (next_written old.program old.store session index tree next).2;
         named = live_named old.store.tables insert.table seen.0 (legal_sound old.program old.history (old.store, replayed.0) replayed.1).columns seen.1;
         accepted = sym known ∙ free;
       },
     )
-
--- ---- which statements are carried out
-
-one_of_these : (s : Statement) → IsCarried (Ok s) → ((q : Query) → s ≡ statement.Query q → ⊥) → ((d : Dml) → s ≡ statement.Dml d → ⊥) → ((create : CreatedTable) → s ≡ statement.Create create → ⊥) → ⊥
-one_of_these _ (creates create plain) no_query no_change no_table = no_table create refl
-one_of_these _ (inserts insert values) no_query no_change no_table = no_change (dml.Insert insert) refl
-one_of_these _ (queries query plain) no_query no_change no_table = no_query query refl
-
-pub only_these : (program : Script) (store : Plain) (session index : ℕ) (s : Statement) → next_statement program store session index ≡ Some (Ok s) → ((q : Query) → s ≡ statement.Query q → ⊥) → ((d : Dml) → s ≡ statement.Dml d → ⊥) → ((create : CreatedTable) → s ≡ statement.Create create → ⊥) → ⊥
-only_these program store session index s next = one_of_these s (next_is program store session index (Ok s) next).carried
-
-one_insert : (d : Dml) → built (statement.Dml d) ≡ true → ((insert : Insert) → d ≡ dml.Insert insert → ⊥) → ⊥
-one_insert (dml.Insert insert) plain no_insert = no_insert insert refl
-one_insert (dml.Update u) plain no_insert = false≢true plain
-one_insert (dml.Delete d) plain no_insert = false≢true plain
-one_insert (dml.Copy c) plain no_insert = false≢true plain
-
-pub only_inserts : (program : Script) (store : Plain) (session index : ℕ) (s : Statement) (d : Dml) → next_statement program store session index ≡ Some (Ok s) → s ≡ statement.Dml d → ((insert : Insert) → d ≡ dml.Insert insert → ⊥) → ⊥
-only_inserts program store session index s d next is =
-    one_insert d (subst (λ (t : Statement). built t ≡ true) is (carried_built s (next_is program store session index (Ok s) next).carried))

@@ -28,8 +28,8 @@ use Rattle.tt_plain.specs.Turns.{IsIdle}
 use Rattle.tt_plain.proofs.Idle.{answered_idle}
 use Rattle.tt_plain.specs.Ways.{Way, ends, makes, adds, begins, Goes}
 use Rattle.tt_plain.proofs.Ways.{step_goes}
-use Rattle.tt_state.specs.Book.{Book, MadeEntry}
-use Rattle.tt_run.specs.Turns.{HasReplies, InTurn, KeepsOthers, Moves, GoesOn, Answers}
+use Rattle.tt_state.specs.Chronicle.{Chronicle, MadeEntry}
+use Rattle.tt_run.specs.Turns.{HasReplies, InTurn, KeepsOthers, Moves, GoesOn, IsAnswered}
 
 given-some : (told : List (Option Reply)) (answer : Reply) → given_replies (told ++ Some answer ∷ []) ≡ given_replies told ++ answer ∷ []
 given-some [] answer = refl
@@ -86,7 +86,7 @@ step_elsewhere program old new session index k told step =
 
 -- ---- the order of entries
 
-turn_goes_on : (old new : Book) (entry : Entry) (session : ℕ) → entry.actor ≡ Session session → new.program ≡ old.program → new.history ≡ old.history ++ entry ∷ [] → InTurn old session → InTurn new session
+turn_goes_on : (old new : Chronicle) (entry : Entry) (session : ℕ) → entry.actor ≡ Session session → new.program ≡ old.program → new.history ≡ old.history ++ entry ∷ [] → InTurn old session → InTurn new session
 turn_goes_on old new entry session actor same longer turn =
     rw (same, longer) (record {
       known = turn.known;
@@ -94,7 +94,7 @@ turn_goes_on old new entry session actor same longer turn =
       last = none_behind_more session old.history entry actor turn.last;
     })
 
-made_moves : (old new : Book) (session index : ℕ) (kind : EntryKind) (told : Option Reply) → MadeEntry old new (entry_at old.store session index kind) told → Moves old new session
+made_moves : (old new : Chronicle) (session index : ℕ) (kind : EntryKind) (told : Option Reply) → MadeEntry old new (entry_at old.store session index kind) told → Moves old new session
 made_moves old new session index kind told made =
     record {
       same_program = made.same_program;
@@ -103,7 +103,7 @@ made_moves old new session index kind told made =
       turn = turn_goes_on old new (entry_at old.store session index kind) session refl made.same_program made.longer;
     }
 
-then_moves : (old middle new : Book) (session : ℕ) → Moves old middle session → Moves middle new session → Moves old new session
+then_moves : (old middle new : Chronicle) (session : ℕ) → Moves old middle session → Moves middle new session → Moves old new session
 then_moves old middle new session first second =
     record {
       same_program = second.same_program ∙ first.same_program;
@@ -115,13 +115,13 @@ then_moves old middle new session first second =
 -- ---- replies
 
 -- the run of the catalog after an entry
-made_run : (old new : Book) (entry : Entry) (answer : Option Reply) (told : List (Option Reply)) → MadeEntry old new entry answer → replay_of old.program old.history ≡ Some (old.store, told) → replay_of new.program new.history ≡ Some (new.store, told ++ answer ∷ [])
+made_run : (old new : Chronicle) (entry : Entry) (answer : Option Reply) (told : List (Option Reply)) → MadeEntry old new entry answer → replay_of old.program old.history ≡ Some (old.store, told) → replay_of new.program new.history ≡ Some (new.store, told ++ answer ∷ [])
 made_run old new entry answer told made run =
     let here : replay_of old.program (old.history ++ entry ∷ []) ≡ Some (new.store, told ++ answer ∷ []) = replay_of-snoc old.program old.history entry ∙ ap (λ r. after old.program r entry) run ∙ ap (λ next. next >>= λ n. Some (n.0, told ++ n.1 ∷ [])) made.step in
     subst (λ p. replay_of p new.history ≡ Some (new.store, told ++ answer ∷ [])) (sym made.same_program)
     (subst (λ h. replay_of old.program h ≡ Some (new.store, told ++ answer ∷ [])) (sym made.longer) here)
 
-pub made_goes_on : (old new : Book) (session index : ℕ) (kind : EntryKind) → MadeEntry old new (entry_at old.store session index kind) None → GoesOn old new session
+pub made_goes_on : (old new : Chronicle) (session index : ℕ) (kind : EntryKind) → MadeEntry old new (entry_at old.store session index kind) None → GoesOn old new session
 made_goes_on old new session index kind made =
     record {
       moves = made_moves old new session index kind None made;
@@ -132,7 +132,7 @@ made_goes_on old new session index kind made =
       };
     }
 
-pub made_answers : (old new : Book) (session index : ℕ) (kind : EntryKind) (answer : Reply) → MadeEntry old new (entry_at old.store session index kind) (Some answer) → Answers old new session index answer
+pub made_answers : (old new : Chronicle) (session index : ℕ) (kind : EntryKind) (answer : Reply) → MadeEntry old new (entry_at old.store session index kind) (Some answer) → IsAnswered old new session index answer
 made_answers old new session index kind answer made =
     record {
       moves = made_moves old new session index kind (Some answer) made;
@@ -144,7 +144,7 @@ made_answers old new session index kind answer made =
       idle = answered_idle old.program old.store new.store session index kind answer made.step;
     }
 
-pub then_answers : (old middle new : Book) (session index : ℕ) (answer : Reply) → GoesOn old middle session → Answers middle new session index answer → Answers old new session index answer
+pub then_answers : (old middle new : Chronicle) (session index : ℕ) (answer : Reply) → GoesOn old middle session → IsAnswered middle new session index answer → IsAnswered old new session index answer
 then_answers old middle new session index answer begun answered =
     record {
       moves = then_moves old middle new session begun.moves answered.moves;
@@ -156,5 +156,5 @@ then_answers old middle new session index answer begun answered =
 pub idle_next : (program : Script) (store : Plain) (session done : ℕ) (read : Result Statement ℕ) → IsIdle store session done → carried_at program session (done + 1) ≡ Some read → next_statement program store session (done + 1) ≡ Some read
 idle_next program store session done read idle said = next_from program store session (done + 1) read (record { done = done; running = None }) idle refl refl said
 
-pub replies_of_run : (book : Book) (replies : List Reply) → HasReplies book replies → AreReplies book.program book.history replies
+pub replies_of_run : (book : Chronicle) (replies : List Reply) → HasReplies book replies → AreReplies book.program book.history replies
 replies_of_run book replies has = record { run = (book.store, has.told); replayed = has.run; given = has.given }

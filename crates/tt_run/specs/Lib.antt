@@ -1,5 +1,5 @@
 pub mod AnsweredLines
-pub mod Reading
+pub mod Requests
 pub mod InsertedRows
 pub mod Turns
 pub mod Outcomes

@@ -1,8 +1,10 @@
 -- The statuses of the top call and their causes.
-use Rattle.std.specs.Prelude.{◌≡◌, ◌<◌, ◌↔◌, IsSome, ◌⊎◌, ◌+◌, ℕ, List, length, take, Option, IfSome, Result, Ok, Err, nat_lt, if◌then◌else◌, ⊤}
+use Rattle.std.specs.Prelude.{◌≡◌, ◌<◌, ◌↔◌, IsSome, ◌⊎◌, ◌+◌, ◌-◌, ℕ, Bool, List, length, map, take, string_bytes, String, Option, IfSome, Result, Ok, Err, nat_lt, if◌then◌else◌, ⊤}
+use Rattle.tt_edge.specs.Outside.{LosesFront, RoseByMore}
 use Rattle.tt_script.specs.declared.script.Script.{Script}
 use Rattle.tt_script.specs.Script.{answer_of}
-use Rattle.tt_run.specs.Words.{are_replay_words}
+use Rattle.tt_state.specs.Chronicle.{Chronicle}
+use Rattle.tt_run.specs.Words.{are_replay_words, partition_rows_of}
 use Rattle.tt_run.specs.declared.top.Outcome.{Outcome}
 use Rattle.tt_run.specs.declared.top.Status.{Status}
 use Rattle.tt_run.specs.declared.top.Status.TheVariants as status
@@ -96,3 +98,40 @@ IsLate status.ReadFault = ⊥
 IsLate status.WriteFault = ⊤
 IsLate status.OutOfMemory = ⊤
 IsLate status.TooLong = ⊥
+
+-- ---- the same of the program's words
+
+abbrev pub rows_wanted : {A : Type 0} → List (String A) → Option ℕ
+rows_wanted words = partition_rows_of (map string_bytes words)
+
+abbrev pub are_right : {A : Type 0} → List (String A) → Bool
+are_right words = are_replay_words (map string_bytes words)
+
+abbrev pub status_for : {A : Type 0} → List (String A) → List ℕ → Status
+status_for words input = due_status (map string_bytes words) input
+
+-- ---- the same of what a source is read to: what it has left and what it gave, before and after
+
+abbrev pub IsRightInput : List ℕ → Type 0
+IsRightInput input = input_status input ≡ status.Ok
+
+abbrev pub OnBadInput : Type 0 → Status → Type 0
+OnBadInput fact given = IfBadInput given (λ _. fact)
+
+abbrev pub GaveTooMuch : {S : Type 0} → (S → ℕ) → S → S → Type 0
+GaveTooMuch given old new = RoseByMore given old new longest_input
+
+abbrev pub GaveText : {S : Type 0} → (S → Option (List ℕ)) → (S → ℕ) → S → S → List ℕ → Type 0
+GaveText left given old new text = WasGiven (left old) (given old) (given new) text
+
+abbrev pub HasGivenText : {S : Type 0} → (S → Option (List ℕ)) → (S → ℕ) → S → S → Chronicle → Type 0
+HasGivenText left given old new store = GaveText left given old new store.program.text
+
+abbrev pub GaveWhole : {S : Type 0} → (S → Option (List ℕ)) → (S → ℕ) → S → S → Status → Type 0
+GaveWhole left given old new due = GaveFor (left old) (given old) (given new) due
+
+abbrev pub IsDueToWhole : {S : Type 0} → (S → Option (List ℕ)) → (S → ℕ) → S → S → Status → Type 0
+IsDueToWhole left given old new status = IfWholeInput status (GaveWhole left given old new)
+
+abbrev pub LosesWhatItGave : {S : Type 0} → (S → Option (List ℕ)) → (S → ℕ) → S → S → Type 0
+LosesWhatItGave left given old new = LosesFront (left old) (left new) (given new - given old)

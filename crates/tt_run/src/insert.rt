@@ -5,12 +5,13 @@ ghost use Rattle.std.specs.Str.{bytes_eq};
 ghost use Rattle.tt_value.specs.values.RowText.{IsPrintable};
 ghost use Rattle.tt_sql.specs.meaning.Changes.{for_column};
 ghost use Rattle.tt_plain.specs.InsertRows.{added_rows};
+ghost use Rattle.tt_plain.specs.Statements.{InsertsTuples};
 ghost use Rattle.tt_plain.specs.WrongCounts.{width};
 ghost use Rattle.tt_run.specs.InsertedRows.{stored_cells, stored_at, stored_by_name, named_cells, tuple_cells, listed_at, stored_tuple, stored_tuples, IsAccepted};
 
 use sqlite_items::{Items, at};
 use std::alloc::{AllocError, Global};
-use tt_sql::{Insert, InsertSource, Tuple};
+use tt_sql::{Insert, Tuple};
 use tt_time::read_date;
 use tt_value::{Column, Kind, Literal, Name, Row, Schema, Sequence, Text, Value};
 
@@ -147,14 +148,17 @@ fn tuple_rows(
     Ok(rows)
 }
 
-/// The rows that an INSERT of written rows adds to a table of this schema, in the order of its tuples.
-pub fn stored_rows(alloc: Global, schema: &Schema, insert: &Insert) -> Result<Vec<Row>, AllocError>
-    requires { IsAccepted schema.now insert.now }
+/// The rows that an INSERT of these written rows adds to a table of this schema, in the order of its tuples.
+pub fn stored_rows(
+    alloc: Global,
+    schema: &Schema,
+    insert: &Insert,
+    tuples: &[Tuple],
+) -> Result<Vec<Row>, AllocError>
+    requires accepted { IsAccepted schema.now insert.now }
+    requires tuples { InsertsTuples insert.now tuples.now }
     ensures rows { IfOk result (λ rows. added_rows schema.now insert.now ≡ Some rows.items) }
     ensures printable { IfOk result (λ rows. All IsPrintable rows.items) }
 {
-    let InsertSource::Values(tuples) = &insert.source else {
-        unreachable!();
-    };
-    tuple_rows(alloc, schema, &insert.columns, tuples.as_slice())
+    tuple_rows(alloc, schema, &insert.columns, tuples)
 }

@@ -1,14 +1,13 @@
 //! What a statement's text says: its statement, or the place of its fault.
 
 ghost use Rattle.std.specs.Prelude.{◌≡◌, ◌<◌, ◌^◌, length, IfOk};
+ghost use Rattle.tt_sql.specs.asked.Request.{as_read};
 ghost use Rattle.tt_sql.specs.text.StatementOf.{fault_place as place_of, statement_of};
-ghost use Rattle.tt_plain.specs.Statements.{carried_out};
-ghost use Rattle.tt_run.specs.Reading.{as_read};
 
 use std::alloc::{AllocError, Global};
 use tt_lex::{LexFault, TokensError, tokens};
 use tt_parse::{ParseError, parse};
-use tt_sql::{Statement, Syntax, built};
+use tt_sql::{Statement, Syntax};
 
 fn fault_place(fault: LexFault) -> u32
     ensures { result ≡ place_of fault }
@@ -40,17 +39,5 @@ pub fn read_statement(alloc: Global, text: &str) -> Result<Result<Statement, Syn
         Ok(statement) => Ok(Ok(statement)),
         Err(ParseError::Syntax(syntax)) => Ok(Err(syntax)),
         Err(ParseError::Memory) => Err(AllocError),
-    }
-}
-
-/// What becomes of what was read: a statement that uses a part which is not built yet is refused like a
-/// text that is none, at place 0.
-pub fn carried(read: Result<Statement, Syntax>) -> Result<Statement, Syntax>
-    ensures { as_read result ≡ carried_out (as_read read) }
-{
-    match read {
-        Ok(statement) if built(&statement) => Ok(statement),
-        Ok(_) => Err(Syntax { place: 0 }),
-        Err(syntax) => Err(syntax),
     }
 }

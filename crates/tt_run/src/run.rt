@@ -3,10 +3,10 @@
 ghost use Rattle.std.specs.Prelude.{◌≡◌, ◌≤◌, ◌<◌, ◌+◌, ◌^◌, length, IfOk, OnOk, [], Some, slice_get};
 ghost use Rattle.tt_plain.specs.Store.{empty_store};
 ghost use Rattle.tt_plain.specs.Turns.{IsIdle};
-ghost use Rattle.tt_run.specs.Turns.{IsReplayed, HasReplies, Answers, InTurn, KeepsOthers, AreAllDone};
+ghost use Rattle.tt_run.specs.Turns.{IsReplayed, HasReplies, IsAnswered, InTurn, KeepsOthers, AreAllDone};
 ghost use Rattle.tt_run.specs.Outcomes.{IsFinished, IsTranscript, InOrder};
 
-use crate::parsing::{carried, read_statement};
+use crate::parsing::read_statement;
 use crate::session::run_statement;
 use crate::settle::settle;
 use crate::transcript::transcript;
@@ -31,12 +31,12 @@ fn run_next(
     requires few { place + 1 < 2 ^ 32 }
     requires idle { IsIdle cat.old.store session place }
     requires replayed { IsReplayed cat.old }
-    ensures { IfOk result (λ reply. Answers cat.old cat.new session (place + 1) reply) }
+    ensures { IfOk result (λ reply. IsAnswered cat.old cat.new session (place + 1) reply) }
 {
     let Some(text) = program.statement(session as usize, place as usize) else {
         unreachable!()
     };
-    let read = carried(read_statement(alloc, text)?);
+    let read = read_statement(alloc, text)?;
     Ok(run_statement(cat, alloc, session, place + 1, read))
 }
 

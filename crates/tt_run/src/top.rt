@@ -1,16 +1,15 @@
 //! The top call: from the words and the bytes that come in to the bytes that go out.
 
-ghost use Rattle.std.specs.Prelude.{◌≡◌, ◌<◌, ◌≤◌, ◌+◌, ◌-◌, ◌^◌, ◌↔◌, ℕ, Ok, Err, Some, map, string_bytes, take, length, false, IfOk, IfErr, OnOk, IfSome, OnSome, IfNone, IsSome, IsErrOf};
+ghost use Rattle.std.specs.Prelude.{◌≡◌, ◌<◌, ◌≤◌, ◌+◌, ◌-◌, ◌^◌, ◌↔◌, ℕ, Ok, Err, Some, take, length, false, IfOk, IfErr, OnOk, IfSome, OnSome, IfNone, IsSome, IsErrOf};
 ghost use Rattle.std.specs.Io.KnownBytes.{Appends, IsAtEnd, Keeps};
-ghost use Rattle.tt_edge.specs.Outside.{LosesFront, Rose};
+ghost use Rattle.tt_edge.specs.Outside.{RoseBy, RoseIn};
 ghost use Rattle.tt_script.specs.Answers.{Answers};
 ghost use Rattle.tt_script.specs.Script.{answer_of};
 ghost use Rattle.tt_plain.specs.Replay.{IsLegal, IsComplete};
 ghost use Rattle.tt_plain.specs.SerialOrder.{IsSerialOrder};
 ghost use Rattle.tt_plain.specs.Transcript.{transcript_of};
 ghost use Rattle.tt_run.specs.Outcomes.{IsFinished, IsTranscript, InOrder, Stands};
-ghost use Rattle.tt_run.specs.Words.{partition_rows_of, are_replay_words};
-ghost use Rattle.tt_run.specs.Top.{number_of, longest_input, input_status, due_status, IsDue, IsDueOrMemory, IsScriptOf, IsFaultOf, HasStoreWhereWritten, WasGiven, IfWholeInput, GaveFor, IfBadInput, IsEarly, IsLate};
+ghost use Rattle.tt_run.specs.Top.{number_of, input_status, rows_wanted, are_right, status_for, IsRightInput, OnBadInput, GaveTooMuch, GaveText, HasGivenText, GaveWhole, IsDueToWhole, LosesWhatItGave, IsDue, IsDueOrMemory, IsScriptOf, IsFaultOf, HasStoreWhereWritten, IfBadInput, IsEarly, IsLate};
 
 use crate::run::{Finished, run_program};
 use crate::words::partition_rows;
@@ -71,20 +70,20 @@ fn read_script(alloc: Global, bytes: Vec<u8>) -> Result<Program, ReadError>
 fn read_program<S: Source>(alloc: Global, source: &mut S) -> Result<Program, Status>
     ensures read { IfOk result (IsScriptOf (S.left source.old)) }
     ensures spelled { IfOk result (λ program. answer_of program.text ≡ Ok program) }
-    ensures counted { IfOk result (λ program. S.given source.new ≡ S.given source.old + length program.text) }
+    ensures counted { IfOk result (λ program. RoseBy S.given source.old source.new (length program.text)) }
     ensures short { IfOk result (λ program. length program.text < 2 ^ 32) }
-    ensures given { IfOk result (λ program. WasGiven (S.left source.old) (S.given source.old) (S.given source.new) program.text) }
-    ensures whole_ok { OnOk result (GaveFor (S.left source.old) (S.given source.old) (S.given source.new) Status.Ok) }
-    ensures whole { IfErr result (λ status. IfWholeInput status (GaveFor (S.left source.old) (S.given source.old) (S.given source.new))) }
+    ensures given { IfOk result (λ program. GaveText S.left S.given source.old source.new program.text) }
+    ensures whole_ok { OnOk result (GaveWhole S.left S.given source.old source.new Status.Ok) }
+    ensures whole { IfErr result (IsDueToWhole S.left S.given source.old source.new) }
     ensures end { OnOk result (IsAtEnd (S.left source.new)) }
-    ensures taken { LosesFront (S.left source.old) (S.left source.new) (S.given source.new - S.given source.old) }
+    ensures taken { LosesWhatItGave S.left S.given source.old source.new }
     ensures early { IfErr result IsEarly }
-    ensures bad_input { IfErr result (λ status. IfBadInput status (λ _. IsAtEnd (S.left source.new))) }
+    ensures bad_input { IfErr result (OnBadInput (IsAtEnd (S.left source.new))) }
     ensures place { IfErr result (λ status. IfBadInput status (IsFaultOf (S.left source.old))) }
     ensures due { IfSome (S.left source.old) (λ input. IfErr result (IsDue (input_status input))) }
-    ensures due_ok { IfSome (S.left source.old) (λ input. OnOk result (input_status input ≡ Status.Ok)) }
-    ensures too_long { IsErrOf result Status.TooLong ↔ (longest_input < S.given source.new - S.given source.old) }
-    ensures failed { IsErrOf result Status.ReadFault → Rose (S.faults source.old) (S.faults source.new) }
+    ensures due_ok { IfSome (S.left source.old) (λ input. OnOk result (IsRightInput input)) }
+    ensures too_long { IsErrOf result Status.TooLong ↔ GaveTooMuch S.given source.old source.new }
+    ensures failed { IsErrOf result Status.ReadFault → RoseIn S.faults source.old source.new }
 {
     let bytes = match read_all(alloc, source, LONGEST_INPUT) {
         Ok(bytes) => bytes,
@@ -115,7 +114,7 @@ fn finish<K: Sink>(sink: &mut K, finished: Finished) -> Outcome
     ensures ok { result.status ≡ Status.Ok → IsSome result.store }
     ensures fault { result.status ≡ Status.WriteFault → IsSome result.store }
     ensures memory { HasStoreWhereWritten result (K.received sink.old) (K.received sink.new) }
-    ensures failed { result.status ≡ Status.WriteFault → Rose (K.faults sink.old) (K.faults sink.new) }
+    ensures failed { result.status ≡ Status.WriteFault → RoseIn K.faults sink.old sink.new }
     ensures late { IsLate result.status }
 {
     let Finished { store, text } = finished;
@@ -150,7 +149,7 @@ pub fn top_alone<S: Source, K: Sink>(
     ensures complete { IfSome result.store (λ store. IsComplete store.program store.history) }
     ensures serial_order { IfSome result.store (λ store. IsSerialOrder store.program store.history) }
     ensures stands { IfSome result.store Stands }
-    ensures rows { IfSome result.store (λ store. partition_rows_of (map string_bytes words.now) ≡ Some store.cap) }
+    ensures rows { IfSome result.store (λ store. rows_wanted words.now ≡ Some store.cap) }
 
     // The bytes written are the transcript, or a prefix of it where writing failed.
     ensures transcript { result.status ≡ Status.Ok → IfSome result.store (λ store.
@@ -168,9 +167,9 @@ pub fn top_alone<S: Source, K: Sink>(
     // its bytes, these are they; else there are as many.
     ensures spelled { IfSome result.store (λ store. answer_of store.program.text ≡ Ok store.program) }
     ensures read { IfSome result.store (λ store. IsScriptOf (S.left source.old) store.program) }
-    ensures given { IfSome result.store (λ store. WasGiven (S.left source.old) (S.given source.old) (S.given source.new) store.program.text) }
+    ensures given { IfSome result.store (HasGivenText S.left S.given source.old source.new) }
     ensures end { OnSome result.store (IsAtEnd (S.left source.new)) }
-    ensures taken { LosesFront (S.left source.old) (S.left source.new) (S.given source.new - S.given source.old) }
+    ensures taken { LosesWhatItGave S.left S.given source.old source.new }
 
     // When there is a store.
     ensures ok { result.status ≡ Status.Ok → IsSome result.store }
@@ -179,20 +178,20 @@ pub fn top_alone<S: Source, K: Sink>(
     ensures late { OnSome result.store (IsLate result.status) }
 
     // Each status by its cause.
-    ensures words { (result.status ≡ Status.BadWords) ↔ (are_replay_words (map string_bytes words.now) ≡ false) }
-    ensures read_fault { result.status ≡ Status.ReadFault → Rose (S.faults source.old) (S.faults source.new) }
-    ensures too_long { (result.status ≡ Status.TooLong) ↔ (longest_input < S.given source.new - S.given source.old) }
+    ensures words { (result.status ≡ Status.BadWords) ↔ (are_right words.now ≡ false) }
+    ensures read_fault { result.status ≡ Status.ReadFault → RoseIn S.faults source.old source.new }
+    ensures too_long { (result.status ≡ Status.TooLong) ↔ GaveTooMuch S.given source.old source.new }
     ensures bad_input { IfBadInput result.status (λ place. IsAtEnd (S.left source.new)
         × IsFaultOf (S.left source.old) place) }
-    ensures whole { IfWholeInput result.status (GaveFor (S.left source.old) (S.given source.old) (S.given source.new)) }
-    ensures write_fault { result.status ≡ Status.WriteFault → Rose (K.faults sink.old) (K.faults sink.new) }
+    ensures whole { IsDueToWhole S.left S.given source.old source.new result.status }
+    ensures write_fault { result.status ≡ Status.WriteFault → RoseIn K.faults sink.old sink.new }
 
     // Where the source tells its bytes, the words and the bytes say which status is due. Faults and want of
     // memory alone may stand in its place, and where no count of faults rose, want of memory alone.
-    ensures due { IfSome (S.left source.old) (λ input. IsDue (due_status (map string_bytes words.now) input) result.status) }
+    ensures due { IfSome (S.left source.old) (λ input. IsDue (status_for words.now input) result.status) }
     ensures answered { IfSome (S.left source.old) (λ input.
-        (Rose (S.faults source.old) (S.faults source.new) → ⊥) → (Rose (K.faults sink.old) (K.faults sink.new) → ⊥)
-        → IsDueOrMemory (due_status (map string_bytes words.now) input) result.status) }
+        (RoseIn S.faults source.old source.new → ⊥) → (RoseIn K.faults sink.old sink.new → ⊥)
+        → IsDueOrMemory (status_for words.now input) result.status) }
 {
     let Some(rows) = partition_rows(words) else {
         return Outcome {

@@ -1,4 +1,4 @@
-pub mod Book
+pub mod Chronicle
 pub mod Commits
 pub mod Lookups
 pub mod Outcomes

@@ -23,13 +23,13 @@ use Rattle.tt_plain.proofs.Turns.{next_is, open_is, open_from}
 use Rattle.tt_state.specs.declared.ticket.Seen.{Seen}
 use Rattle.tt_state.specs.declared.ticket.Started.{Started}
 use Rattle.tt_state.specs.declared.ticket.Started.TheVariants as started
-use Rattle.tt_state.specs.Book.{Book, StandsFor}
+use Rattle.tt_state.specs.Chronicle.{Chronicle, StandsFor}
 use Rattle.tt_state.specs.Outcomes.{Starts}
 use Rattle.tt_state.specs.Ready.{IsReady}
 use Rattle.tt_state.proofs.Ready.{ready}
 use Rattle.tt_state.specs.Tickets.{opened_by, SeesTables, HaveTheirSchemas, TargetHasSchema, AddsToTarget, GivesTicket}
 
-pub next_ready : (book : Book) (room session index : ℕ) (read : Result Statement ℕ) → StandsFor book room → next_statement book.program book.store session index ≡ Some read → IsReady book.program book.store session index
+pub next_ready : (book : Chronicle) (room session index : ℕ) (read : Result Statement ℕ) → StandsFor book room → next_statement book.program book.store session index ≡ Some read → IsReady book.program book.store session index
 next_ready book room session index read stands next =
     let n = next_is book.program book.store session index read next in
     ready book.program book.store session index n.lines n.state stands.sound stands.limits n.at n.counted
@@ -38,13 +38,13 @@ next_ready book room session index read stands next =
 pub next_built : (program : Script) (store : Plain) (session index : ℕ) (statement : Statement) → next_statement program store session index ≡ Some (Ok statement) → built statement ≡ true
 next_built program store session index statement next = carried_built statement (next_is program store session index (Ok statement) next).carried
 
-pub open_ready : (book : Book) (room session index : ℕ) (statement : Statement) (seen : PlainOpen) → StandsFor book room → open_statement book.program book.store session index ≡ Some (statement, seen) → IsReady book.program book.store session index
+pub open_ready : (book : Chronicle) (room session index : ℕ) (statement : Statement) (seen : PlainOpen) → StandsFor book room → open_statement book.program book.store session index ≡ Some (statement, seen) → IsReady book.program book.store session index
 open_ready book room session index statement seen stands found =
     let o = open_is book.program book.store session index statement seen found in
     ready book.program book.store session index o.lines o.state stands.sound stands.limits o.at (open_known book.program book.store session index statement seen stands.sound o).0
 
 -- the target of an open statement is one of the tables
-pub open_target : (book : Book) (room session index : ℕ) (statement : Statement) (seen : PlainOpen) → StandsFor book room → open_statement book.program book.store session index ≡ Some (statement, seen) → IsTableNumber (length book.store.tables) seen.target
+pub open_target : (book : Chronicle) (room session index : ℕ) (statement : Statement) (seen : PlainOpen) → StandsFor book room → open_statement book.program book.store session index ≡ Some (statement, seen) → IsTableNumber (length book.store.tables) seen.target
 open_target book room session index statement seen stands found =
     (open_known book.program book.store session index statement seen stands.sound (open_is book.program book.store session index statement seen found)).1
 
@@ -85,7 +85,7 @@ unfolding with_opened
 opened_tables program store moment session index seen = refl
 
 -- a start gives the ticket of the statement that it opened
-pub ticket_given : (old : Book) (room session index : ℕ) (statement : Statement) (told : Told) (start : Started) (history : List Entry) (store : Plain) → StandsFor old room → next_statement old.program old.store session index ≡ Some (Ok statement) → Starts old.program old.store session index statement store told start → GivesTicket old (record { program = old.program; cap = old.cap; history = history; store = store }) session index statement start
+pub ticket_given : (old : Chronicle) (room session index : ℕ) (statement : Statement) (told : Told) (start : Started) (history : List Entry) (store : Plain) → StandsFor old room → next_statement old.program old.store session index ≡ Some (Ok statement) → Starts old.program old.store session index statement store told start → GivesTicket old (record { program = old.program; cap = old.cap; history = history; store = store }) session index statement start
 ticket_given old room session index statement told.Done (started.Ticket ticket) history store stands next outcome =
     let found = begun_open old.program old.store session index statement (opened_by ticket) next outcome.3 in
     let here : open_statement old.program store session index ≡ Some (statement, opened_by ticket) = rw outcome.5 found in

@@ -1,7 +1,7 @@
-pub mod Book
+pub mod Chronicle
 pub mod MadeEntries
 pub mod Moves
-pub mod NamedTables
+pub mod Openings
 pub mod Outcomes
 pub mod PlainOf
 pub mod Ready

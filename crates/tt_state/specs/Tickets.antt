@@ -1,6 +1,7 @@
 -- Tickets, and the open statements for which they stand.
 use Rattle.std.specs.Prelude.{◌≡◌, ℕ, List, [], ◌∷◌, map, length, All, Option, Some, None, ⊤}
 use Rattle.std.specs.Option.{option_map}
+use Rattle.tt_value.specs.declared.name.TableName.{TableName}
 use Rattle.tt_value.specs.declared.value.Row.{Row}
 use Rattle.tt_value.specs.values.RowText.{IsPrintable}
 use Rattle.tt_sql.specs.declared.change.Insert.{Insert}
@@ -21,7 +22,11 @@ use Rattle.tt_state.specs.declared.ticket.Seen.{Seen}
 use Rattle.tt_state.specs.declared.ticket.Built.{Built}
 use Rattle.tt_state.specs.declared.ticket.Started.{Started}
 use Rattle.tt_state.specs.declared.ticket.Started.TheVariants as started
-use Rattle.tt_state.specs.Book.{Book}
+use Rattle.tt_state.specs.Chronicle.{Chronicle}
+
+-- the live table of a name
+abbrev pub IsLiveAt : List PlainTable → TableName → PlainTable → Type 0
+IsLiveAt tables name table = live_at tables name ≡ Some table
 
 -- why a statement is refused over these tables
 abbrev pub IsRefusal : List PlainTable → Statement → Refusal → Type 0
@@ -68,21 +73,21 @@ TargetHasSchema tables None = ⊤
 TargetHasSchema tables (Some seen) = HasItsSchema tables seen
 
 -- the ticket is that of its session's open statement, which is this one, with the schemas of its tables
-pub record IsTicketOf (book : Book) (ticket : Ticket) (statement : Statement) : Type 0 where
+pub record IsTicketOf (book : Chronicle) (ticket : Ticket) (statement : Statement) : Type 0 where
   pub opened : open_statement book.program book.store ticket.session ticket.index ≡ Some (statement, opened_by ticket)
   pub sources : HaveTheirSchemas book.store.tables ticket.sources.items
   pub target : TargetHasSchema book.store.tables ticket.target
 
 -- the ticket is that of an open query
-abbrev pub IsQueryTicket : Book → Ticket → Type 0
+abbrev pub IsQueryTicket : Chronicle → Ticket → Type 0
 IsQueryTicket book ticket = (query : Query) × IsTicketOf book ticket (statement.Query query)
 
 -- the ticket is that of some open statement
-abbrev pub IsOpenTicket : Book → Ticket → Type 0
+abbrev pub IsOpenTicket : Chronicle → Ticket → Type 0
 IsOpenTicket book ticket = (statement : Statement) × IsTicketOf book ticket statement
 
 -- what was built for an open INSERT: the rows that it adds to its table, and their number
-pub record IsBuiltFor (book : Book) (ticket : Ticket) (built : Built) : Type 0 where
+pub record IsBuiltFor (book : Chronicle) (ticket : Ticket) (built : Built) : Type 0 where
   pub insert : Insert
   pub ticket_of : IsTicketOf book ticket (statement.Dml (dml.Insert insert))
   pub seen : Seen
@@ -97,7 +102,7 @@ AddsToTarget (statement.Dml (dml.Insert insert)) (Some seen) = AddsItsTuples see
 AddsToTarget _ _ = ⊤
 
 -- What a start gives, where it gives a ticket: that of the statement, with its tables as they are.
-abbrev pub GivesTicket : Book → Book → ℕ → ℕ → Statement → Started → Type 0
+abbrev pub GivesTicket : Chronicle → Chronicle → ℕ → ℕ → Statement → Started → Type 0
 GivesTicket old new session index statement (started.Ticket ticket) = (ticket.session ≡ session) × (ticket.index ≡ index) × SeesTables old.store.tables statement ticket.sources.items ticket.target × IsTicketOf new ticket statement × AddsToTarget statement ticket.target
 GivesTicket old new session index statement (started.Refused refusal) = ⊤
 GivesTicket old new session index statement started.Memory = ⊤

@@ -1,7 +1,8 @@
 //! The calls by which statements change the catalog, each of which makes one entry.
 
-ghost use Rattle.std.specs.Prelude.{◌≡◌, true, Ok, Err, [], IfOk, IfErr};
-ghost use Rattle.tt_plain.specs.Statements.{is_started, is_definition};
+ghost use Rattle.std.specs.Prelude.{◌≡◌, Ok, Err, [], IfOk, IfErr};
+ghost use Rattle.tt_sql.specs.declared.statement.Statement.TheVariants as statement;
+ghost use Rattle.tt_plain.specs.Statements.{insertion, InsertsTuples};
 ghost use Rattle.tt_history.specs.declared.history.Told.TheVariants as told;
 ghost use Rattle.tt_history.specs.declared.history.EntryKind.TheVariants as kind;
 ghost use Rattle.tt_history.specs.declared.reply.Reply.TheVariants as reply;
@@ -14,7 +15,7 @@ use crate::catalog::Catalog;
 use crate::ticket::{Built, Started, Ticket};
 use std::alloc::Global;
 use tt_history::{Actor, Entry, EntryKind, Refusal, Reply, Told};
-use tt_sql::{Statement, Syntax};
+use tt_sql::{CreatedTable, Insert, Query, Tuple};
 use tt_value::Sequence;
 
 fn session_entry(moment: u64, session: u32, index: u32, kind: EntryKind) -> Entry
@@ -38,38 +39,62 @@ fn end_without_parts(alloc: Global) -> EntryKind
     }
 }
 
-/// Makes the Define entry of a session's next statement, which is a definition: it is carried out, or
+/// Makes the Define entry of a session's next statement, which is a CREATE TABLE: it is carried out, or
 /// refused, or finds no memory.
-pub fn define(cat: &mut Catalog, session: u32, index: u32, statement: &Statement) -> Reply
-    requires next { IsNextRead cat.old session index (Ok statement.now) }
-    requires definition { is_definition (Ok statement.now) ≡ true }
+pub fn define(cat: &mut Catalog, session: u32, index: u32, create: &CreatedTable) -> Reply
+    requires { IsNextRead cat.old session index (Ok (statement.Create create.now)) }
     ensures { MadeDefine cat.old cat.new session index result }
 {
     let moment = cat.state.moment + 1;
-    let (told, reply) = cat.state.define(&cat.program, session, index, statement);
+    let (told, reply) = cat.state.define(&cat.program, session, index, create);
     let entry = session_entry(moment, session, index, EntryKind::Define(told));
     cat.history.push(entry);
     reply
 }
 
-fn start_statement(cat: &mut Catalog, session: u32, index: u32, statement: &Statement) -> Started
-    requires next { IsNextRead cat.old session index (Ok statement.now) }
-    requires started { is_started (Ok statement.now) ≡ true }
+/// Makes the Start entry of a session's next statement, which is a query: it begins with a ticket, or is
+/// refused, or finds no memory.
+pub fn begin_query(cat: &mut Catalog, session: u32, index: u32, query: &Query) -> Started
+    requires { IsNextRead cat.old session index (Ok (statement.Query query.now)) }
     ensures entry { MadeStart cat.old cat.new session index result }
-    ensures ticket { GivesTicket cat.old cat.new session index statement.now result }
+    ensures ticket { GivesTicket cat.old cat.new session index (statement.Query query.now) result }
 {
     let moment = cat.state.moment + 1;
-    let (told, started) = cat.state.start(&cat.program, session, index, statement);
+    let (told, started) = cat.state.begin_query(&cat.program, session, index, query);
     let entry = session_entry(moment, session, index, EntryKind::Start(told));
     cat.history.push(entry);
     started
 }
 
-// A text that is no statement is refused at its start. It takes no memory.
-fn refuse_text(cat: &mut Catalog, session: u32, index: u32, place: u32) -> Started
-    requires { IsNextRead cat.old session index (Err place) }
+/// Makes the Start entry of a session's next statement, which is an INSERT of these written rows: it
+/// begins with a ticket, or is refused, or finds no memory.
+pub fn begin_insert(
+    cat: &mut Catalog,
+    session: u32,
+    index: u32,
+    insert: &Insert,
+    tuples: &[Tuple],
+) -> Started
+    requires next { IsNextRead cat.old session index (Ok (insertion insert.now)) }
+    requires tuples { InsertsTuples insert.now tuples.now }
     ensures entry { MadeStart cat.old cat.new session index result }
-    ensures refused { result ≡ started.Refused (refusal.Syntax place) }
+    ensures ticket { GivesTicket cat.old cat.new session index (insertion insert.now) result }
+{
+    let moment = cat.state.moment + 1;
+    let (told, started) = cat
+        .state
+        .begin_insert(&cat.program, session, index, insert, tuples);
+    let entry = session_entry(moment, session, index, EntryKind::Start(told));
+    cat.history.push(entry);
+    started
+}
+
+/// Makes the Start entry of a text that is no statement, which is refused there for the fault at this
+/// place. So is a statement that is not carried out yet, for which place 0 is passed. It takes no memory.
+pub fn refuse(cat: &mut Catalog, session: u32, index: u32, place: u32) -> Refusal
+    requires { IsNextRead cat.old session index (Err place) }
+    ensures entry { MadeStart cat.old cat.new session index (started.Refused result) }
+    ensures refused { result ≡ refusal.Syntax place }
 {
     let moment = cat.state.moment + 1;
     cat.state.end_statement(&cat.program, session, index);
@@ -77,29 +102,7 @@ fn refuse_text(cat: &mut Catalog, session: u32, index: u32, place: u32) -> Start
     let told = Told::Refused(refusal.number());
     let entry = session_entry(moment, session, index, EntryKind::Start(told));
     cat.history.push(entry);
-    Started::Refused(refusal)
-}
-
-/// Makes the Start entry of a session's next statement, which is a query or an INSERT: it begins with a
-/// ticket, or is refused, or finds no memory. A text that is no statement is refused at the place that is
-/// passed. So is a statement that is not carried out yet, for which place 0 is passed.
-pub fn start(
-    cat: &mut Catalog,
-    session: u32,
-    index: u32,
-    parsed: Result<&Statement, Syntax>,
-) -> Started
-    requires next { IfOk parsed (λ statement. IsNextRead cat.old session index (Ok statement.now)) }
-    requires started { IfOk parsed (λ statement. is_started (Ok statement.now) ≡ true) }
-    requires bad { IfErr parsed (λ syntax. IsNextRead cat.old session index (Err syntax.place)) }
-    ensures entry { MadeStart cat.old cat.new session index result }
-    ensures ticket { IfOk parsed.entry (λ s. GivesTicket cat.old cat.new session index s.now result) }
-    ensures refused { IfErr parsed.entry (λ s. result ≡ started.Refused (refusal.Syntax s.place)) }
-{
-    match parsed {
-        Ok(statement) => start_statement(cat, session, index, statement),
-        Err(Syntax { place }) => refuse_text(cat, session, index, place),
-    }
+    refusal
 }
 
 /// Makes the End entry of an open query, whose answer is the rows that its ticket holds. It takes no

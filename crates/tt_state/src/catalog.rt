@@ -14,7 +14,7 @@ use tt_plain::PlainSession;
 use tt_script::{Program, Script, SessionText};
 
 /// The tables with the bag of each version, the sessions, and the history of what they did. It keeps the
-/// program that it was made for and the rows of a partition. Contracts see it as a `Book`, whose history
+/// program that it was made for and the rows of a partition. Contracts see it as a `Chronicle`, whose history
 /// is legal and leads to its store.
 #[derive(Drop)]
 pub struct Catalog {
@@ -25,10 +25,10 @@ pub struct Catalog {
 }
 
 impl Model for Catalog {
-    ghost use Rattle.tt_state.specs.Book.{Book, StandsFor};
+    ghost use Rattle.tt_state.specs.Chronicle.{Chronicle, StandsFor};
     ghost use Rattle.tt_state.specs.PlainOf.{plain_of};
 
-    ghost Value = { Book };
+    ghost Value = { Chronicle };
 
     ghost view = { λ c. record { program = c.program; cap = c.cap; history = c.history.list; store = plain_of c.state } };
 

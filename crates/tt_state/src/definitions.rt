@@ -1,9 +1,8 @@
 //! Definitions: the tables that they make.
 
-ghost use Rattle.std.specs.Prelude.{◌≡◌, ◌+◌, ◌<◌, ◌^◌, length, map, IfOk, OnOk, OnErr, true, Ok, []};
-ghost use Rattle.tt_sql.specs.trees.Built.{built as is_built};
+ghost use Rattle.std.specs.Prelude.{◌≡◌, ◌+◌, ◌<◌, ◌^◌, length, map, IfOk, OnOk, OnErr, true, []};
+ghost use Rattle.tt_sql.specs.trees.Built.{is_plain_create};
 ghost use Rattle.tt_plain.specs.CreateTable.{column_made, new_table as table_of};
-ghost use Rattle.tt_plain.specs.Statements.{is_definition};
 ghost use Rattle.tt_state.specs.Moves.{HasTable, HasCarriedOut, HasDefined};
 ghost use Rattle.tt_state.specs.PlainOf.{plain_of};
 ghost use Rattle.tt_state.specs.Ready.{IsReady};
@@ -14,7 +13,7 @@ use std::alloc::{AllocError, Global};
 use tt_history::{Reply, SharedBag, Told};
 use tt_plain::{PlainTable, Version};
 use tt_script::Program;
-use tt_sql::{ColumnDefinition, CreatedTable, Statement};
+use tt_sql::{ColumnDefinition, CreatedTable};
 use tt_value::{Bag, Column, Schema, Sequence};
 
 /// No rows: those of a new table, and those with which an INSERT sees its table.
@@ -87,19 +86,15 @@ impl State {
         Ok(())
     }
 
-    /// Carries a definition out, where it is not refused and memory is found. The moment is still that
+    /// Carries a CREATE TABLE out, where it is not refused and memory is found. The moment is still that
     /// of the last entry.
-    fn carry_out(&mut self, statement: &Statement) -> (Told, Reply)
-        requires built { is_built statement.now ≡ true }
-        requires definition { is_definition (Ok statement.now) ≡ true }
+    fn carry_out(&mut self, create: &CreatedTable) -> (Told, Reply)
+        requires plain { is_plain_create create.now ≡ true }
         requires few { length self.old.tables.items + 1 < 2 ^ 32 }
         requires moment { self.old.moment + 1 < 2 ^ 64 }
-        ensures { HasCarriedOut self.old self.new statement.now result }
+        ensures { HasCarriedOut self.old self.new create.now result }
     {
-        let Statement::Create(create) = statement else {
-            unreachable!()
-        };
-        if let Some(refusal) = create_refusal(self.tables.as_slice(), create, statement) {
+        if let Some(refusal) = create_refusal(self.tables.as_slice(), create) {
             return (Told::Refused(refusal.number()), Reply::Refused(refusal));
         }
         match self.add_table(create) {
@@ -108,21 +103,20 @@ impl State {
         }
     }
 
-    /// Makes the whole of a definition's entry but the entry itself.
+    /// Makes the whole of a CREATE TABLE's entry but the entry itself.
     pub fn define(
         &mut self,
         program: &Program,
         session: u32,
         index: u32,
-        statement: &Statement,
+        create: &CreatedTable,
     ) -> (Told, Reply)
-        requires built { is_built statement.now ≡ true }
-        requires definition { is_definition (Ok statement.now) ≡ true }
+        requires plain { is_plain_create create.now ≡ true }
         requires few { length self.old.tables.items + 1 < 2 ^ 32 }
         requires ready { IsReady program.now (plain_of self.old) session index }
-        ensures { HasDefined program.now self.old self.new session index statement.now result }
+        ensures { HasDefined program.now self.old self.new session index create.now result }
     {
-        let outcome = self.carry_out(statement);
+        let outcome = self.carry_out(create);
         self.end_statement(program, session, index);
         outcome
     }

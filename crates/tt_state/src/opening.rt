@@ -1,26 +1,26 @@
 //! How a statement begins: what it sees of the tables.
 
-ghost use Rattle.std.specs.Prelude.{◌≡◌, map, true, None, Some, Ok, IfOk, IfErr, OnOk};
+ghost use Rattle.std.specs.Prelude.{◌≡◌, [], ◌∷◌, map, true, None, Some, IfOk};
 ghost use Rattle.std.specs.Option.{option_map};
-ghost use Rattle.tt_sql.specs.trees.Built.{built as is_built};
-ghost use Rattle.tt_plain.specs.Refusals.{refusal_over};
-ghost use Rattle.tt_plain.specs.Statements.{is_started};
+ghost use Rattle.tt_sql.specs.trees.Built.{is_plain_query};
+ghost use Rattle.tt_sql.specs.declared.statement.Statement.TheVariants as statement;
+ghost use Rattle.tt_plain.specs.Statements.{insertion, InsertsTuples};
 ghost use Rattle.tt_plain.specs.Store.{current_rows as rows_of};
-ghost use Rattle.tt_state.specs.Moves.{HasStarted};
+ghost use Rattle.tt_state.specs.Moves.{HasStartedInsert, HasStartedQuery, StartsWhatOpened};
 ghost use Rattle.tt_state.specs.PlainOf.{plain_of};
 ghost use Rattle.tt_state.specs.Ready.{IsReady};
-ghost use Rattle.tt_state.specs.NamedTables.{sources_of, target_of, opened_on, IsNamedIn, Sees, IsOpenedAt};
-ghost use Rattle.tt_state.specs.Tickets.{IsRefusal, opened_with, seen_rows, read_table as read_of, written_table as written_of};
+ghost use Rattle.tt_state.specs.Openings.{IsOpenedAt, Opens};
+ghost use Rattle.tt_state.specs.Tickets.{opened_with, seen_rows, read_table as read_of, written_table as written_of};
 
 use crate::definitions::empty_rows;
-use crate::lookup::table_for;
+use crate::lookup::{table_changed, table_read};
 use crate::state::State;
 use crate::ticket::{Seen, Started, Ticket};
 use std::alloc::{AllocError, Global};
 use tt_history::{Refusal, SharedBag, Told};
 use tt_plain::{PlainOpen, PlainTable};
 use tt_script::Program;
-use tt_sql::{Dml, Statement};
+use tt_sql::{Insert, Query, Tuple};
 use tt_value::Sequence;
 
 /// The rows of a table's last version. No row is copied.
@@ -53,48 +53,6 @@ fn written_table(alloc: Global, table: &PlainTable) -> Result<Seen, AllocError>
     })
 }
 
-// A table that a statement names, and what it does with it.
-enum Named<'a> {
-    Read(&'a PlainTable),
-    Changed(&'a PlainTable),
-}
-
-// The table of a statement that begins, or why it is refused.
-fn named_table<'a>(tables: &'a [PlainTable], statement: &Statement) -> Result<Named<'a>, Refusal>
-    requires built { is_built statement.now ≡ true }
-    requires started { is_started (Ok statement.now) ≡ true }
-    ensures sees { IfOk result (IsNamedIn tables.now statement.now) }
-    ensures free { OnOk result (refusal_over tables.now statement.now ≡ None) }
-    ensures refused { IfErr result (IsRefusal tables.now statement.now) }
-{
-    match statement {
-        Statement::Query(query) => {
-            let table = table_for(tables, &query.first.table, statement)?;
-            Ok(Named::Read(table))
-        }
-        Statement::Dml(Dml::Insert(insert)) => {
-            let table = table_for(tables, &insert.table, statement)?;
-            Ok(Named::Changed(table))
-        }
-        _ => unreachable!(),
-    }
-}
-
-// The tables that a statement reads, and the one that it changes.
-fn seen_tables(alloc: Global, named: Named<'_>) -> Result<(Vec<Seen>, Option<Seen>), AllocError>
-    ensures sources { IfOk result (λ seen. seen.0.items ≡ sources_of named.entry) }
-    ensures target { IfOk result (λ seen. seen.1 ≡ target_of named.entry) }
-{
-    let mut sources = Vec::new(alloc);
-    match named {
-        Named::Read(table) => {
-            sources.push(read_table(alloc, table)?)?;
-            Ok((sources, None))
-        }
-        Named::Changed(table) => Ok((sources, Some(written_table(alloc, table)?))),
-    }
-}
-
 fn share_seen(seen: &Seen) -> Result<(u32, SharedBag), AllocError>
     ensures { IfOk result (λ pair. pair ≡ seen_rows seen.now) }
 {
@@ -120,7 +78,7 @@ fn share_target(target: &Option<Seen>) -> Result<Option<(u32, SharedBag)>, Alloc
     }
 }
 
-fn opened(
+fn plain_open(
     alloc: Global,
     index: u32,
     sources: &[Seen],
@@ -135,20 +93,31 @@ fn opened(
     })
 }
 
-// A ticket with what the store keeps of it.
-struct Opening {
+/// A ticket's tables with what the store keeps of them.
+pub struct Opening {
     sources: Vec<Seen>,
     target: Option<Seen>,
     seen: PlainOpen,
 }
 
-fn make_opening(alloc: Global, index: u32, named: Named<'_>) -> Result<Opening, AllocError>
-    ensures sources { IfOk result (λ o. o.sources.items ≡ sources_of named.entry) }
-    ensures target { IfOk result (λ o. o.target ≡ target_of named.entry) }
-    ensures seen { IfOk result (λ o. o.seen ≡ opened_on index named.entry) }
+/// What a statement sees when it begins, or why it does not.
+pub enum Opened {
+    Opening(Opening),
+    Refused(Refusal),
+    Memory,
+}
+
+fn make_opening(
+    alloc: Global,
+    index: u32,
+    sources: Vec<Seen>,
+    target: Option<Seen>,
+) -> Result<Opening, AllocError>
+    ensures sources { IfOk result (λ o. o.sources.items ≡ sources.items) }
+    ensures target { IfOk result (λ o. o.target ≡ target) }
+    ensures seen { IfOk result (IsOpenedAt index) }
 {
-    let (sources, target) = seen_tables(alloc, named)?;
-    let seen = opened(alloc, index, sources.as_slice(), &target)?;
+    let seen = plain_open(alloc, index, sources.as_slice(), &target)?;
     Ok(Opening {
         sources,
         target,
@@ -156,46 +125,79 @@ fn make_opening(alloc: Global, index: u32, named: Named<'_>) -> Result<Opening, 
     })
 }
 
-// What a statement that is not refused sees when it begins, where memory is found.
-fn open(
+// What a query sees of the table that it reads.
+fn open_read(alloc: Global, index: u32, table: &PlainTable) -> Result<Opening, AllocError>
+    ensures sources { IfOk result (λ o. o.sources.items ≡ read_of table.now ∷ []) }
+    ensures target { IfOk result (λ o. o.target ≡ None) }
+    ensures seen { IfOk result (IsOpenedAt index) }
+{
+    let mut sources = Vec::new(alloc);
+    sources.push(read_table(alloc, table)?)?;
+    make_opening(alloc, index, sources, None)
+}
+
+// What an INSERT of written rows sees of the table that it changes.
+fn open_changed(alloc: Global, index: u32, table: &PlainTable) -> Result<Opening, AllocError>
+    ensures sources { IfOk result (λ o. o.sources.items ≡ []) }
+    ensures target { IfOk result (λ o. o.target ≡ Some (written_of table.now)) }
+    ensures seen { IfOk result (IsOpenedAt index) }
+{
+    let target = written_table(alloc, table)?;
+    make_opening(alloc, index, Vec::new(alloc), Some(target))
+}
+
+fn open_query(alloc: Global, tables: &[PlainTable], index: u32, query: &Query) -> Opened
+    requires { is_plain_query query.now ≡ true }
+    ensures { Opens tables.now index (statement.Query query.now) result }
+{
+    match table_read(tables, query) {
+        Ok(table) => match open_read(alloc, index, table) {
+            Ok(opening) => Opened::Opening(opening),
+            Err(AllocError) => Opened::Memory,
+        },
+        Err(refusal) => Opened::Refused(refusal),
+    }
+}
+
+fn open_insert(
     alloc: Global,
     tables: &[PlainTable],
     index: u32,
-    statement: &Statement,
-) -> Result<Result<Opening, AllocError>, Refusal>
-    requires built { is_built statement.now ≡ true }
-    requires started { is_started (Ok statement.now) ≡ true }
-    ensures sees { IfOk result (λ made. IfOk made (Sees tables.now statement.now)) }
-    ensures seen { IfOk result (λ made. IfOk made (IsOpenedAt index)) }
-    ensures free { OnOk result (refusal_over tables.now statement.now ≡ None) }
-    ensures refused { IfErr result (IsRefusal tables.now statement.now) }
+    insert: &Insert,
+    tuples: &[Tuple],
+) -> Opened
+    requires { InsertsTuples insert.now tuples.now }
+    ensures { Opens tables.now index (insertion insert.now) result }
 {
-    let named = named_table(tables, statement)?;
-    Ok(make_opening(alloc, index, named))
+    match table_changed(tables, insert, tuples) {
+        Ok(table) => match open_changed(alloc, index, table) {
+            Ok(opening) => Opened::Opening(opening),
+            Err(AllocError) => Opened::Memory,
+        },
+        Err(refusal) => Opened::Refused(refusal),
+    }
 }
 
 impl State {
-    /// Makes the whole of a start's entry but the entry itself.
-    pub fn start(
+    // The statement begins with what it sees, or ends where it does not begin.
+    fn begin(
         &mut self,
         program: &Program,
         session: u32,
         index: u32,
-        statement: &Statement,
+        opened: Opened,
     ) -> (Told, Started)
-        requires built { is_built statement.now ≡ true }
-        requires started { is_started (Ok statement.now) ≡ true }
         requires ready { IsReady program.now (plain_of self.old) session index }
-        ensures { HasStarted program.now self.old self.new session index statement.now result }
+        ensures { StartsWhatOpened program.now self.old self.new session index opened result }
     {
-        let alloc = *self.tables.allocator();
-        match open(alloc, self.tables.as_slice(), index, statement) {
-            Ok(Ok(opening)) => {
-                let Opening {
+        match opened {
+            Opened::Opening(
+                Opening {
                     sources,
                     target,
                     seen,
-                } = opening;
+                },
+            ) => {
                 self.begin_statement(program, session, index, seen);
                 let ticket = Ticket {
                     session,
@@ -205,14 +207,49 @@ impl State {
                 };
                 (Told::Done, Started::Ticket(ticket))
             }
-            Ok(Err(AllocError)) => {
+            Opened::Memory => {
                 self.end_statement(program, session, index);
                 (Told::Memory, Started::Memory)
             }
-            Err(refusal) => {
+            Opened::Refused(refusal) => {
                 self.end_statement(program, session, index);
                 (Told::Refused(refusal.number()), Started::Refused(refusal))
             }
         }
+    }
+
+    /// Makes the whole of a query's start but the entry itself.
+    pub fn begin_query(
+        &mut self,
+        program: &Program,
+        session: u32,
+        index: u32,
+        query: &Query,
+    ) -> (Told, Started)
+        requires plain { is_plain_query query.now ≡ true }
+        requires ready { IsReady program.now (plain_of self.old) session index }
+        ensures { HasStartedQuery program.now self.old self.new session index query.now result }
+    {
+        let alloc = *self.tables.allocator();
+        let opened = open_query(alloc, self.tables.as_slice(), index, query);
+        self.begin(program, session, index, opened)
+    }
+
+    /// Makes the whole of the start of an INSERT of these written rows but the entry itself.
+    pub fn begin_insert(
+        &mut self,
+        program: &Program,
+        session: u32,
+        index: u32,
+        insert: &Insert,
+        tuples: &[Tuple],
+    ) -> (Told, Started)
+        requires tuples { InsertsTuples insert.now tuples.now }
+        requires ready { IsReady program.now (plain_of self.old) session index }
+        ensures { HasStartedInsert program.now self.old self.new session index insert.now result }
+    {
+        let alloc = *self.tables.allocator();
+        let opened = open_insert(alloc, self.tables.as_slice(), index, insert, tuples);
+        self.begin(program, session, index, opened)
     }
 }

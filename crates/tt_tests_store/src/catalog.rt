@@ -13,8 +13,8 @@ use tt_history::{Refusal, Reply, Told};
 use tt_plain::PlainSession;
 use tt_script::{Program, read};
 use tt_sql::{
-    ColumnDefinition, CreatedTable, Dml, Insert, InsertSource, Query, Selection, Source, Statement,
-    TableKind, TableOptions, Tuple, built,
+    ColumnDefinition, CreatedTable, Insert, InsertSource, Query, Selection, Source, TableKind,
+    TableOptions, Tuple, plain_create, plain_query,
 };
 use tt_state::{Catalog, Seen, Started, State, Ticket};
 use tt_value::{Kind, Literal, Name, Row, Sequence, TableName, Text, Value};
@@ -34,14 +34,14 @@ fn table(alloc: Global, text: &str, place: u32) -> Result<TableName, Fail> {
 }
 
 /// CREATE TABLE name (X INT NOT NULL).
-fn create(alloc: Global, text: &str) -> Result<Statement, Fail> {
+fn create(alloc: Global, text: &str) -> Result<CreatedTable, Fail> {
     let mut columns = Items::new(alloc);
     columns.push(ColumnDefinition {
         name: name(alloc, "X", 16)?,
         kind: Kind::Int,
         not_null: true,
     })?;
-    Ok(Statement::Create(CreatedTable {
+    Ok(CreatedTable {
         replaces: false,
         kind: TableKind::Permanent,
         table: table(alloc, text, 13)?,
@@ -50,25 +50,25 @@ fn create(alloc: Global, text: &str) -> Result<Statement, Fail> {
             cluster_by: None,
             retention: None,
         },
-    }))
+    })
 }
 
 /// INSERT INTO name VALUES (value).
-fn insert(alloc: Global, text: &str, value: Value) -> Result<Statement, Fail> {
+fn insert(alloc: Global, text: &str, value: Value) -> Result<Insert, Fail> {
     let mut values = Items::new(alloc);
     values.push(Literal { value, place: 22 })?;
     let mut tuples = Items::new(alloc);
     tuples.push(Tuple { place: 21, values })?;
-    Ok(Statement::Dml(Dml::Insert(Insert {
+    Ok(Insert {
         table: table(alloc, text, 12)?,
         columns: None,
         source: InsertSource::Values(tuples),
-    })))
+    })
 }
 
 /// SELECT * FROM name.
-fn select(alloc: Global, text: &str) -> Result<Statement, Fail> {
-    Ok(Statement::Query(Query {
+fn select(alloc: Global, text: &str) -> Result<Query, Fail> {
+    Ok(Query {
         place: 0,
         selection: Selection::All(7),
         first: Source {
@@ -80,7 +80,7 @@ fn select(alloc: Global, text: &str) -> Result<Statement, Fail> {
         group: Items::new(alloc),
         order: Items::new(alloc),
         limit: None,
-    }))
+    })
 }
 
 /// A program whose one session has four statements.
@@ -118,12 +118,11 @@ fn is_ready(program: &Program, state: &State, index: u32) -> bool
 /// The state in which a CREATE TABLE T was the first statement.
 fn with_table<R: Abort + AllocGlobal>(rt: &R, program: &Program) -> Result<State, Fail> {
     let mut state = beginning(rt.alloc())?;
-    let statement = create(rt.alloc(), "T")?;
-    assert!(rt; built(&statement));
-    assert!(rt; matches!(&statement, Statement::Create(_)));
+    let create = create(rt.alloc(), "T")?;
+    assert!(rt; plain_create(&create));
     assert!(rt; state.tables.len() < 10);
     assert!(rt; is_ready(program, &state, 1));
-    let (told, reply) = state.define(program, 0, 1, &statement);
+    let (told, reply) = state.define(program, 0, 1, &create);
     assert!(rt; told == Told::Done);
     assert!(rt; matches!(&reply, Reply::Ok));
     Ok(state)
@@ -179,16 +178,15 @@ fn refusal_to_start<R: Abort>(rt: &R, started: Started) -> Option<Refusal> {
 /// Why a definition is refused where the table T is there.
 fn assert_definition<R: Abort + AllocGlobal>(
     rt: &R,
-    statement: Statement,
+    create: CreatedTable,
     want: Option<Refusal>,
 ) -> Result<(), Fail> {
     let program = program(rt.alloc())?;
     let mut state = with_table(rt, &program)?;
-    assert!(rt; built(&statement));
-    assert!(rt; matches!(&statement, Statement::Create(_)));
+    assert!(rt; plain_create(&create));
     assert!(rt; state.tables.len() < 10);
     assert!(rt; is_ready(&program, &state, 2));
-    let (told, reply) = state.define(&program, 0, 2, &statement);
+    let (told, reply) = state.define(&program, 0, 2, &create);
     let told_as = match want {
         None => Told::Done,
         Some(refusal) => Told::Refused(refusal.number()),
@@ -198,18 +196,35 @@ fn assert_definition<R: Abort + AllocGlobal>(
     Ok(())
 }
 
-/// Why a query or an INSERT is refused where the table T is there.
-fn assert_refusal<R: Abort + AllocGlobal>(
+/// Why a query is refused where the table T is there.
+fn assert_query<R: Abort + AllocGlobal>(
     rt: &R,
-    statement: Statement,
+    query: Query,
     want: Option<Refusal>,
 ) -> Result<(), Fail> {
     let program = program(rt.alloc())?;
     let mut state = with_table(rt, &program)?;
-    assert!(rt; built(&statement));
-    assert!(rt; matches!(&statement, Statement::Query(_) | Statement::Dml(_)));
+    assert!(rt; plain_query(&query));
     assert!(rt; is_ready(&program, &state, 2));
-    let started = state.start(&program, 0, 2, &statement).1;
+    let started = state.begin_query(&program, 0, 2, &query).1;
+    assert!(rt; refusal_to_start(rt, started) == want);
+    Ok(())
+}
+
+/// Why an INSERT is refused where the table T is there.
+fn assert_insert<R: Abort + AllocGlobal>(
+    rt: &R,
+    insert: Insert,
+    want: Option<Refusal>,
+) -> Result<(), Fail> {
+    let program = program(rt.alloc())?;
+    let mut state = with_table(rt, &program)?;
+    assert!(rt; is_ready(&program, &state, 2));
+    let InsertSource::Values(tuples) = &insert.source else {
+        panic!(rt; "the rows are written");
+    };
+    let tuples = tuples.as_slice();
+    let started = state.begin_insert(&program, 0, 2, &insert, tuples).1;
     assert!(rt; refusal_to_start(rt, started) == want);
     Ok(())
 }
@@ -217,10 +232,10 @@ fn assert_refusal<R: Abort + AllocGlobal>(
 #[test]
 fn names_have_to_be_live(rt: HostRuntime) -> Result<(), Fail> {
     let alloc = rt.alloc();
-    assert_refusal(&rt, select(alloc, "T")?, None)?;
-    assert_refusal(&rt, select(alloc, "U")?, Some(Refusal::UnknownTable(14)))?;
+    assert_query(&rt, select(alloc, "T")?, None)?;
+    assert_query(&rt, select(alloc, "U")?, Some(Refusal::UnknownTable(14)))?;
     let inserted = insert(alloc, "U", Value::Int(1))?;
-    assert_refusal(&rt, inserted, Some(Refusal::UnknownTable(12)))
+    assert_insert(&rt, inserted, Some(Refusal::UnknownTable(12)))
 }
 
 #[test]
@@ -238,7 +253,7 @@ fn values_have_to_fit(rt: HostRuntime) -> Result<(), Fail> {
         (Value::Null, Some(Refusal::NullInNotNull(22))),
         (Value::Date(0), Some(Refusal::TypeMismatch(22))),
     ] {
-        assert_refusal(&rt, insert(alloc, "T", value)?, want)?;
+        assert_insert(&rt, insert(alloc, "T", value)?, want)?;
     }
     Ok(())
 }
@@ -279,12 +294,11 @@ fn seen_by<R: Abort + AllocGlobal>(
     rt: &R,
     program: &Program,
     state: &mut State,
-    query: &Statement,
+    query: &Query,
 ) -> Vec<Seen> {
-    assert!(rt; built(query));
-    assert!(rt; matches!(query, Statement::Query(_)));
+    assert!(rt; plain_query(query));
     assert!(rt; is_ready(program, state, 2));
-    match state.start(program, 0, 2, query).1 {
+    match state.begin_query(program, 0, 2, query).1 {
         Started::Ticket(
             Ticket {
                 session: 0,

@@ -1,11 +1,10 @@
 use Rattle.std.proofs.Common.{sym, subst}
-use Rattle.tt_sql.specs.declared.change.Dml.TheVariants as dml
-use Rattle.tt_sql.specs.declared.statement.Statement.TheVariants as statement
 use Rattle.tt_history.specs.declared.reply.Reply.TheVariants as reply
+use Rattle.tt_plain.specs.Statements.{insertion}
 use Rattle.tt_state.specs.declared.ticket.Ticket.{Ticket}
-use Rattle.tt_state.specs.Book.{Book}
+use Rattle.tt_state.specs.Chronicle.{Chronicle}
 use Rattle.tt_state.specs.Tickets.{IsOpenTicket}
-use Rattle.tt_run.specs.Turns.{Answers}
+use Rattle.tt_run.specs.Turns.{IsAnswered}
 use Rattle.tt_run.proofs.TurnsLaws.{made_answers}
 use Rattle.tt_run.proofs.session.change_rows.Goals as goal
 
@@ -28,7 +27,7 @@ end_change-requires c =
 pub abandon-requires-in-Err-clause-ticket : goal.abandon-requires-in-Err-clause-ticket
 abandon-requires-in-Err-clause-ticket c =
     subst (λ (t : Ticket). IsOpenTicket c.end_change.new.cat t) (sym c.in-Err.ensures.ticket)
-    (subst (λ (b : Book). IsOpenTicket b c.args.ticket) (sym c.in-Err.ensures.unchanged) (statement.Dml (dml.Insert c.args.insert.now), c.requires.ticket))
+    (subst (λ (b : Chronicle). IsOpenTicket b c.args.ticket) (sym c.in-Err.ensures.unchanged) (insertion c.args.insert.now, c.requires.ticket))
 
 pub returns-in-Ok-end_change : goal.returns-in-Ok-end_change
 returns-in-Ok-end_change c = made_answers _ _ _ _ _ _ c.in-Ok-end_change.ensures.ok
@@ -36,5 +35,5 @@ returns-in-Ok-end_change c = made_answers _ _ _ _ _ _ c.in-Ok-end_change.ensures
 pub returns-in-Err : goal.returns-in-Err
 returns-in-Err c =
     let given = made_answers _ _ _ _ _ _ c.abandon-in-Err.ensures in
-    subst (λ (t : Ticket). Answers c.args.cat.now c.abandon-in-Err.new.cat t.session t.index reply.Memory) c.in-Err.ensures.ticket
-    (subst (λ (b : Book). Answers b c.abandon-in-Err.new.cat c.in-Err.ticket.session c.in-Err.ticket.index reply.Memory) c.in-Err.ensures.unchanged given)
+    subst (λ (t : Ticket). IsAnswered c.args.cat.now c.abandon-in-Err.new.cat t.session t.index reply.Memory) c.in-Err.ensures.ticket
+    (subst (λ (b : Chronicle). IsAnswered b c.abandon-in-Err.new.cat c.in-Err.ticket.session c.in-Err.ticket.index reply.Memory) c.in-Err.ensures.unchanged given)

@@ -1,5 +1,6 @@
-use Rattle.tt_run.proofs.Starts.{only_inserts}
+use Rattle.std.proofs.Common.{◌∙◌, Some, ap}
+use Rattle.tt_run.proofs.Requests.{changes_nothing}
 use Rattle.tt_run.proofs.session.run_change.Goals as goal
 
-pub unreachable-requires : goal.unreachable-requires
-unreachable-requires c = only_inserts c.args.cat.now.program c.args.cat.now.store c.args.session c.args.index c.args.whole.now c.args.change.now c.requires.next c.requires.change c.in_default.not-Insert
+pub refuse_text-requires : goal.refuse_text-requires
+refuse_text-requires c = c.requires.next ∙ ap Some (changes_nothing c.args.change.now c.in_default.not-Insert)

@@ -1,27 +1,15 @@
-use Rattle.std.proofs.Common.{subst}
-use Rattle.tt_sql.specs.declared.statement.Statement.{Statement}
-use Rattle.tt_state.specs.Tickets.{IsTicketOf}
-use Rattle.tt_run.specs.Turns.{Answers}
-use Rattle.tt_run.proofs.TurnsLaws.{made_goes_on, made_answers, then_answers}
-use Rattle.tt_run.proofs.Starts.{is_for}
+use Rattle.std.proofs.Common.{◌∙◌, Some, ap, sym}
+use Rattle.tt_sql.specs.declared.change.InsertSource.TheVariants as source
+use Rattle.tt_sql.specs.trees.Built.{has_values}
+use Rattle.tt_plain.specs.Statements.{insertion}
+use Rattle.tt_run.proofs.Requests.{is_carried_out, is_left}
 use Rattle.tt_run.proofs.session.run_insert.Goals as goal
 
-pub change_rows-requires-clause-ticket : goal.change_rows-requires-clause-ticket
-change_rows-requires-clause-ticket c = subst (λ (s : Statement). IsTicketOf c.start.new.cat c.in-Ticket.ticket s) c.requires.insert c.in-Ticket.ensures.ticket.3
+pub run_values-requires-clause-next : goal.run_values-requires-clause-next
+run_values-requires-clause-next c = c.requires.next ∙ ap Some (is_carried_out (insertion c.args.insert.now) (ap has_values c.in-Values.is))
 
-pub change_rows-requires-clause-target : goal.change_rows-requires-clause-target
-change_rows-requires-clause-target c =
-    is_for c.args.cat.now c.start.new.cat.store c.args.session c.args.index c.args.whole.now c.args.insert.now c.in-Ticket.ticket c.in-Ticket.ensures.entry.0 c.requires.replayed c.requires.next c.requires.insert c.in-Ticket.ensures.entry.1.step c.in-Ticket.ensures.ticket.2
+pub run_values-requires-clause-tuples : goal.run_values-requires-clause-tuples
+run_values-requires-clause-tuples c = c.in-Values.is ∙ ap source.Values (sym c.as_slice.ensures)
 
-pub returns-in-Refused : goal.returns-in-Refused
-returns-in-Refused c = made_answers _ _ _ _ _ _ c.in-Refused.ensures.entry.1
-
-pub returns-in-Memory : goal.returns-in-Memory
-returns-in-Memory c = made_answers _ _ _ _ _ _ c.in-Memory.ensures.entry.1
-
-pub returns-in-Ticket : goal.returns-in-Ticket
-returns-in-Ticket c =
-    let given = c.in-Ticket.ensures.ticket in
-    let at_index = subst (λ i. Answers c.start.new.cat c.change_rows.new.cat c.in-Ticket.ticket.session i c.change_rows.result) given.1 c.change_rows.ensures in
-    let answered = subst (λ s. Answers c.start.new.cat c.change_rows.new.cat s c.args.index c.change_rows.result) given.0 at_index in
-    then_answers _ _ _ _ _ _ (made_goes_on _ _ _ _ _ c.in-Ticket.ensures.entry.1) answered
+pub refuse_text-requires : goal.refuse_text-requires
+refuse_text-requires c = c.requires.next ∙ ap Some (is_left (insertion c.args.insert.now) (ap has_values c.in-Query.is))

@@ -2,7 +2,7 @@ use Rattle.std.proofs.Common.{◌≤◌, arith, ◌∙◌, ap, ◌≡◌}
 use Rattle.tt_script.specs.Program.{IsProgram}
 use Rattle.tt_plain.specs.Limits.{entry_limit}
 use Rattle.tt_plain.proofs.Limits.{few_statements}
-use Rattle.tt_state.proofs.Book.{begins}
+use Rattle.tt_state.proofs.Chronicle.{begins}
 use Rattle.tt_state.proofs.catalog.Catalog.new.Goals as goal
 
 pub entry_room-requires-clause-statements : goal.entry_room-requires-clause-statements

@@ -10,7 +10,7 @@ use Rattle.tt_plain.specs.Limits.{entry_limit}
 use Rattle.tt_plain.specs.Store.{empty_store}
 use Rattle.tt_plain.specs.Replay.{step_of, replay_of, replay_from, after, replay_of-snoc}
 use Rattle.tt_plain.proofs.Sound.{empty_sound, owed-empty, step_moved}
-use Rattle.tt_state.specs.Book.{Book, StandsFor, MadeEntry}
+use Rattle.tt_state.specs.Chronicle.{Chronicle, StandsFor, MadeEntry}
 
 pub begins : (program : Script) (cap room : ℕ) → IsProgram program → entry_limit program ≤ room → StandsFor (record { program = program; cap = cap; history = []; store = empty_store program }) room
 unfolding replay_of replay_from
@@ -24,11 +24,11 @@ begins program cap room limits roomy =
     }
 
 -- there is room for an entry that is allowed
-pub has_room : (book : Book) (room : ℕ) (entry : Entry) (new : Plain) (told : Option Reply) → StandsFor book room → step_of book.program book.store entry ≡ Some (new, told) → 0 < room
+pub has_room : (book : Chronicle) (room : ℕ) (entry : Entry) (new : Plain) (told : Option Reply) → StandsFor book room → step_of book.program book.store entry ≡ Some (new, told) → 0 < room
 has_room book room entry new told stands step = omega (arith, (step_moved book.program book.store entry new told stands.sound step).less, stands.roomy)
 
 -- and the catalog stands for its history with it
-pub goes_on : (book : Book) (room left : ℕ) (entry : Entry) (new store : Plain) (told : Option Reply) (history : List Entry) → StandsFor book room → step_of book.program book.store entry ≡ Some (new, told) → history ≡ book.history ++ entry ∷ [] → store ≡ new → left + 1 ≡ room → StandsFor (record { program = book.program; cap = book.cap; history = history; store = store }) left
+pub goes_on : (book : Chronicle) (room left : ℕ) (entry : Entry) (new store : Plain) (told : Option Reply) (history : List Entry) → StandsFor book room → step_of book.program book.store entry ≡ Some (new, told) → history ≡ book.history ++ entry ∷ [] → store ≡ new → left + 1 ≡ room → StandsFor (record { program = book.program; cap = book.cap; history = history; store = store }) left
 goes_on book room left entry new store told history stands step longer same room_is =
     let moved = step_moved book.program book.store entry new told stands.sound step in
     rw (longer, same) (record {
@@ -39,7 +39,7 @@ goes_on book room left entry new store told history stands step longer same room
       roomy = omega (arith, moved.less, stands.roomy);
     })
 
-pub made : (book : Book) (entry : Entry) (new store : Plain) (told : Option Reply) (history : List Entry) → step_of book.program book.store entry ≡ Some (new, told) → history ≡ book.history ++ entry ∷ [] → store ≡ new → MadeEntry book (record { program = book.program; cap = book.cap; history = history; store = store }) entry told
+pub made : (book : Chronicle) (entry : Entry) (new store : Plain) (told : Option Reply) (history : List Entry) → step_of book.program book.store entry ≡ Some (new, told) → history ≡ book.history ++ entry ∷ [] → store ≡ new → MadeEntry book (record { program = book.program; cap = book.cap; history = history; store = store }) entry told
 made book entry new store told history step longer same =
     record {
       same_program = refl;
