@@ -13,10 +13,11 @@ use Rattle.tt_value.specs.trees.Predicates.{is_null}
 use Rattle.std.proofs.lemmas.Bool.{ne_eqb}
 use Rattle.tt_sql.specs.declared.query.Query.{Query}
 use Rattle.tt_sql.specs.declared.query.Selection.{Selection}
+use Rattle.tt_sql.specs.declared.query.Selection.TheVariants.{All}
 use Rattle.tt_sql.specs.meaning.Queries.{column_values, value_at, selected, all_some, grouped, group_key, has_aggregate, selected_rows}
 use Rattle.tt_agg.specs.Lent.{lent}
 use Rattle.tt_agg.specs.Groups.{key_at, rows_of, group_row}
-use Rattle.tt_agg.specs.Selected.{unless_null, present_at, single_row, whole_row, grouped_rows, ungrouped_rows}
+use Rattle.tt_agg.specs.Selected.{IsWhole, unless_null, present_at, single_row, whole_row, grouped_rows, ungrouped_rows}
 
 kept_value : (found : Option Value) (later : List Value) → cond (not (is_null (value_or_null found))) (value_or_null found ∷ later) later ≡ option_to_list (unless_null found) ++ later
 kept_value None later = refl
@@ -90,3 +91,17 @@ IsNo false = Unit {0}
 
 pub false_true : false ≡ true → ⊥
 false_true e = subst IsNo e tt
+
+-- ---- whole rows
+
+rows_alone : (scope : Scope) (place : ℕ) (rows : List Row) → all_some (map (single_row scope (All place)) rows) ≡ Some rows
+rows_alone scope place [] = refl
+rows_alone scope place (row ∷ rows) = ap (option_map (λ later. row ∷ later)) (rows_alone scope place rows)
+
+all_alone : (scope : Scope) (place : ℕ) (rows : List Row) → ungrouped_rows scope (All place) rows ≡ Some rows
+unfolding ungrouped_rows
+all_alone scope place rows = rows_alone scope place rows
+
+pub whole_rows : (query : Query) (place : ℕ) → query.selection ≡ All place → query.group ≡ [] → IsWhole query
+whole_rows query place all none scope rows =
+    sym (of_rows scope query rows none) ∙ (ap (λ (selection : Selection). ungrouped_rows scope selection rows) all ∙ all_alone scope place rows)

@@ -8,7 +8,7 @@ use Rattle.tt_value.specs.trees.Scope.{Scope}
 use Rattle.tt_sql.specs.declared.query.Item.{Item}
 use Rattle.tt_sql.specs.declared.query.Query.{Query}
 use Rattle.tt_sql.specs.declared.query.Selection.{Selection}
-use Rattle.tt_sql.specs.meaning.Queries.{item_value, all_some, has_aggregate, selected, grouped, group_key}
+use Rattle.tt_sql.specs.meaning.Queries.{item_value, all_some, has_aggregate, selected, selected_rows, grouped, group_key}
 use Rattle.tt_agg.specs.declared.error.AggregateError.{AggregateError}
 use Rattle.tt_agg.specs.declared.error.AggregateError.TheVariants.{OutOfRange}
 
@@ -43,3 +43,7 @@ grouped_rows scope query rows = all_some (map (selected scope query.selection) (
 -- an answer that a query is out of range comes only where it is
 abbrev pub IsOutOfRange : Option (List Row) → AggregateError → Type 0
 IsOutOfRange rows error = error ≡ OutOfRange → rows ≡ None
+
+-- the query selects its rows as they are
+abbrev pub IsWhole : Query → Type 0
+IsWhole query = (scope : Scope) (rows : List Row) → selected_rows scope query rows ≡ Some rows

@@ -1,13 +1,13 @@
 //! The rows of an answer in no order.
 
-ghost use Rattle.std.specs.Prelude.{◌≡◌, IfOk, IfErr, map, Some, option_map};
+ghost use Rattle.std.specs.Prelude.{◌≡◌, IfOk, IfErr, IsTrue, map, Some, option_map};
 ghost use Rattle.tt_sql.specs.meaning.Scopes.{query_scope};
 ghost use Rattle.tt_sql.specs.meaning.Queries.{all_some, has_aggregate as aggregates, is_aggregate as aggregate_item, selected_rows};
 ghost use Rattle.tt_scope.specs.Places.{HasPlaces, IsCounted, scope_in};
 ghost use Rattle.std.specs.List.{list_any};
 ghost use Rattle.tt_agg.specs.Lent.{lent};
 ghost use Rattle.tt_agg.specs.Groups.{group_row};
-ghost use Rattle.tt_agg.specs.Selected.{IsOutOfRange, single_row, whole_row, ungrouped_rows, grouped_rows};
+ghost use Rattle.tt_agg.specs.Selected.{IsOutOfRange, IsWhole, single_row, whole_row, ungrouped_rows, grouped_rows};
 
 use crate::error::AggregateError;
 use crate::groups::groups_by;
@@ -39,6 +39,34 @@ pub fn aggregate(
     match answer(alloc, &tables, query, rows)? {
         None => Err(AggregateError::OutOfRange),
         Some(answer) => Ok(answer),
+    }
+}
+
+/// The same of rows that are given away. Where the query selects whole rows they are moved, and none is copied.
+pub fn select(
+    alloc: Global,
+    schemas: &[Schema],
+    query: &Query,
+    rows: Vec<Row>,
+) -> Result<Vec<Row>, AggregateError>
+    requires { HasPlaces schemas.now query.now }
+    ensures rows { IfOk result (λ answer. selected_rows (query_scope schemas.now query.now) query.now rows.items
+        ≡ Some answer.items) }
+    ensures out { IfErr result (IsOutOfRange (selected_rows (query_scope schemas.now query.now) query.now rows.items)) }
+{
+    if selects_whole_rows(query) {
+        Ok(rows)
+    } else {
+        aggregate(alloc, schemas, query, &rows)
+    }
+}
+
+fn selects_whole_rows(query: &Query) -> bool
+    ensures { IsTrue result → IsWhole query.now }
+{
+    match &query.selection {
+        Selection::All(_) => query.group.is_empty(),
+        Selection::Listed(_) => false,
     }
 }
 

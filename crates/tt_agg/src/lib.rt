@@ -7,5 +7,5 @@ mod groups;
 mod items;
 mod values;
 
-pub use aggregating::aggregate;
+pub use aggregating::{aggregate, select};
 pub use error::AggregateError;
