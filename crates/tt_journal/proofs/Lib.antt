@@ -1,0 +1,5 @@
+pub mod Answered
+pub mod Contents
+pub mod Endings
+pub mod Own
+pub mod TranscriptLaws
