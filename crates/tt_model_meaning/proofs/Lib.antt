@@ -1,0 +1,3 @@
+pub mod OneTable
+pub mod TruthSteps
+pub mod Walks

@@ -1,0 +1,3 @@
+pub mod Givens
+pub mod Scopes
+pub mod Values
