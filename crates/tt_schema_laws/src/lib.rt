@@ -1,0 +1,4 @@
+//! Laws of the plain store about the schemas of its tables. The functions compute nothing.
+#![tactic(auto)]
+
+pub mod laws;
