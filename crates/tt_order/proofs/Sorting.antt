@@ -1,5 +1,5 @@
 -- Rows in an order in which what ties is the same: a sorted list with the same copies is the one that insertion gives.
-use Rattle.std.proofs.Common.{◌<◌, suc, length, get_or, ◌≡◌, ℕ, ◌≤◌, Bool, true, false, cond, List, [], ◌∷◌, refl, ap, sym, ◌∙◌, arith}
+use Rattle.std.proofs.Common.{◌<◌, ◌++◌, suc, zero, take, length, get_or, ◌≡◌, ℕ, ◌≤◌, Bool, true, false, cond, List, [], ◌∷◌, refl, ap, sym, ◌∙◌, arith}
 use Rattle.std.specs.Prelude.{⊤}
 use Rattle.std.specs.declared.cmp.Ordering.{Ordering}
 use Rattle.std.specs.declared.cmp.Ordering.TheVariants.{Less, Equal, Greater}
@@ -10,7 +10,7 @@ use Rattle.std.proofs.lemmas.List.Sorted.{sorted_far, ranks_by, sum_by-IsPermuta
 use Rattle.tt_value.specs.values.Order.{TiesAreSame, is_same_row}
 use Rattle.tt_value.specs.values.Bags.{copies_of}
 use Rattle.tt_value.specs.declared.value.Row.{Row}
-use Rattle.tt_value.proofs.values.Bags.{same_itself, same_is, copies_of-cons, one_if}
+use Rattle.tt_value.proofs.values.Bags.{same_itself, same_is, copies_of-append, copies_of-cons, one_if}
 use Rattle.tt_sql.specs.meaning.Queries.{insert_by, sorted_by}
 
 -- What the order says of two rows.
@@ -155,3 +155,53 @@ module _ (cmp : Row → Row → Ordering) (total : IsTotalOrder cmp) (ties : Tie
   pub sorted-from_sort : (rows sorted : List Row) → IsPermutation rows sorted → IsSorted cmp sorted → sorted ≡ sorted_by cmp rows
   sorted-from_sort rows sorted moves up =
       rising_same sorted (sorted_by cmp rows) (Rises-from_sort sorted up) (Rises-sorted rows) (λ row. sum_by-IsPermutation (λ x. one_if (is_same_row row x)) rows sorted moves ∙ sym (copies-sorted row rows))
+
+  -- ---- the first rows of a sorted list
+
+  take_before : (n : ℕ) (r : Row) (rows : List Row) → take n (r ∷ take n rows) ≡ take n (r ∷ rows)
+  take_before zero r rows = refl
+  take_before (suc n) r [] = refl
+  take_before (suc n) r (x ∷ rows) = ap (λ xs. r ∷ xs) (take_before n x rows)
+
+  -- only the first n rows can be among the first n of one row more
+  take-insert : (n : ℕ) (x : Row) (rows : List Row) → take n (insert_by cmp x (take n rows)) ≡ take n (insert_by cmp x rows)
+  take-insert zero x rows = refl
+  take-insert (suc n) x [] = refl
+  take-insert (suc n) x (r ∷ rows) = by (is_above x r) (take-insert n x rows)
+    where
+      by : (b : Bool) → take n (insert_by cmp x (take n rows)) ≡ take n (insert_by cmp x rows) → take (suc n) (cond b (r ∷ insert_by cmp x (take n rows)) (x ∷ r ∷ take n rows)) ≡ take (suc n) (cond b (r ∷ insert_by cmp x rows) (x ∷ r ∷ rows))
+      by true e = ap (λ xs. r ∷ xs) e
+      by false e = ap (λ xs. x ∷ xs) (take_before n r rows)
+
+  sorted-push : (rows : List Row) (x : Row) → sorted_by cmp (rows ++ x ∷ []) ≡ insert_by cmp x (sorted_by cmp rows)
+  sorted-push rows x =
+      sorted_same (rows ++ x ∷ []) (x ∷ rows) (λ row. omega (arith, copies_of-append row rows (x ∷ []), copies_of-cons row x rows, copies_of-cons row x []))
+
+  take-pushed : (n : ℕ) (rows : List Row) (x : Row) → take n (sorted_by cmp (rows ++ x ∷ [])) ≡ take n (insert_by cmp x (take n (sorted_by cmp rows)))
+  take-pushed n rows x = ap (take n) (sorted-push rows x) ∙ sym (take-insert n x (sorted_by cmp rows))
+
+  -- one row more, where the first rows of two lists are the same
+  pub first-pushed : (n : ℕ) (kept rows : List Row) (x : Row) → take n (sorted_by cmp kept) ≡ take n (sorted_by cmp rows) → take n (sorted_by cmp (kept ++ x ∷ [])) ≡ take n (sorted_by cmp (rows ++ x ∷ []))
+  first-pushed n kept rows x e = take-pushed n kept x ∙ (ap (λ first. take n (insert_by cmp x first)) e ∙ sym (take-pushed n rows x))
+
+  IsLeast-take : (n : ℕ) (a : Row) (rows : List Row) → IsLeast a rows → IsLeast a (take n rows)
+  IsLeast-take zero a rows h = tt
+  IsLeast-take (suc n) a [] h = tt
+  IsLeast-take (suc n) a (r ∷ rows) h = (h.0, IsLeast-take n a rows h.1)
+
+  Rises-take : (n : ℕ) (rows : List Row) → Rises rows → Rises (take n rows)
+  Rises-take zero rows h = tt
+  Rises-take (suc n) [] h = tt
+  Rises-take (suc n) (r ∷ rows) h = (IsLeast-take n r rows h.0, Rises-take n rows h.1)
+
+  take-twice : (n : ℕ) (rows : List Row) → take n (take n rows) ≡ take n rows
+  take-twice zero rows = refl
+  take-twice (suc n) [] = refl
+  take-twice (suc n) (r ∷ rows) = ap (λ xs. r ∷ xs) (take-twice n rows)
+
+  -- the first rows of the first rows are the first rows
+  pub first-kept : (n : ℕ) (rows : List Row) → take n (sorted_by cmp (take n (sorted_by cmp rows))) ≡ take n (sorted_by cmp rows)
+  first-kept n rows =
+      let first : List Row = take n (sorted_by cmp rows) in
+      let same : sorted_by cmp first ≡ first = rising_same (sorted_by cmp first) first (Rises-sorted first) (Rises-take n (sorted_by cmp rows) (Rises-sorted rows)) (λ row. copies-sorted row first) in
+      ap (take n) same ∙ take-twice n (sorted_by cmp rows)
