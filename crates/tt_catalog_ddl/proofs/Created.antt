@@ -6,9 +6,9 @@ use Rattle.std.proofs.lemmas.Bool.{false≢true}
 use Rattle.std.proofs.lemmas.Slice.Eq.{bytes_eq-Decides}
 use Rattle.std.proofs.lemmas.List.{length_push, map-append}
 use Rattle.std.proofs.lemmas.List.Folds.{find-append}
+use Rattle.tt_value.specs.declared.value.Kind.{Kind}
 use Rattle.tt_value.specs.declared.value.Row.{Row}
 use Rattle.tt_script.specs.declared.script.Script.{Script}
-use Rattle.tt_layout.specs.Numbers.{has}
 use Rattle.tt_names.specs.Changes.{bound}
 use Rattle.tt_names.specs.Registry.{Registry, live_of}
 use Rattle.tt_names.proofs.Laws.{live_of-bound}
@@ -22,9 +22,9 @@ use Rattle.tt_plain.specs.law.Sound.{AreSoundTables, IsSound}
 use Rattle.tt_plain.specs.stored.Tables.{is_live}
 use Rattle.tt_plain.specs.tally.Facts.{facts_of_table}
 use Rattle.tt_plain.specs.tally.Layouts.{layouts_of}
-use Rattle.tt_partition.specs.Cuts.{table_with}
+use Rattle.tt_partition.specs.Cuts.{kinds_of, table_with}
 use Rattle.tt_built.specs.Built.{built}
-use Rattle.tt_state_parts.specs.Keeps.{AreNames, ArePartNumbers, AreTrueParts, HasKeptParts, IsTruePart, KeepsTables, is_live_as, schema_of, table_of}
+use Rattle.tt_state_parts.specs.Keeps.{AreKeptParts, AreNames, AreTrueParts, HasKeptParts, IsTruePart, KeepsTables, is_live_as, schema_of, table_of}
 use Rattle.tt_state_parts.specs.Kept.{Kept}
 use Rattle.tt_state_parts.specs.declared.part.StoredPart.{StoredPart}
 use Rattle.tt_state_parts.specs.declared.state.TableState.{TableState}
@@ -95,8 +95,8 @@ true_more tables table contents number (part ∷ parts) all =
       true_more tables table contents (number + 1) parts all.1,
     )
 
-nothing_in : (count : ℕ) (begun number : ℕ) → has [] number ≡ true → (1 ≤ number) × (number ≤ count)
-nothing_in count begun number e = absurd (false≢true e)
+nothing_in : (parts : List StoredPart) (kinds : List Kind) → AreKeptParts parts kinds []
+nothing_in parts kinds number e = absurd (false≢true e)
 
 pub tables_made : (program : Script) (store : Plain) (contents : List (List Row)) (kept now : Kept) (table : PlainTable) (begun : ℕ) → IsSound built program store → KeepsTables store.tables store.tally contents kept
     → table.number ≡ length store.tables + 1 → is_live table ≡ true → find (is_live_as table.name) store.tables ≡ None
@@ -113,8 +113,8 @@ tables_made program store contents kept now table begun sound keeps numbered liv
       whole = keeps.whole;
       parts = subst (AreTrueParts (store.tables ++ table ∷ []) contents 1) (sym p) (true_more store.tables table contents 1 kept.parts keeps.parts);
       contents = keeps.contents ∙ ap (λ (ps : List StoredPart). length ps) (sym p);
-      layouts = subst (λ (ps : List StoredPart). Every (HasKeptParts (length ps)) now.tables) (sym p)
-          (subst (λ (ts : List TableState). Every (HasKeptParts (length kept.parts)) ts) (sym t)
-          (every-append (HasKeptParts (length kept.parts)) kept.tables (table_of (more store.tally begun) table ∷ []) keeps.layouts
-          (subst (λ (ls : List (ℕ × List ℕ)). Every (λ (layout : ℕ × List ℕ). ArePartNumbers (length kept.parts) layout.1) ls) (sym own) (nothing_in (length kept.parts) begun, tt), tt)));
+      layouts = subst (λ (ps : List StoredPart). Every (HasKeptParts ps) now.tables) (sym p)
+          (subst (λ (ts : List TableState). Every (HasKeptParts kept.parts) ts) (sym t)
+          (every-append (HasKeptParts kept.parts) kept.tables (table_of (more store.tally begun) table ∷ []) keeps.layouts
+          (subst (λ (ls : List (ℕ × List ℕ)). Every (λ (layout : ℕ × List ℕ). AreKeptParts kept.parts (kinds_of table.schema) layout.1) ls) (sym own) (nothing_in kept.parts (kinds_of table.schema), tt), tt)));
     }

@@ -30,11 +30,12 @@ use Rattle.tt_plain.specs.tally.Changes.{MakesTable, TallyChange}
 use Rattle.tt_names.specs.Changes.{bound}
 use Rattle.tt_built.specs.Built.{built}
 use Rattle.tt_state_parts.proofs.Ended.{closed_at, ended_goes, state_is}
-use Rattle.tt_state_parts.proofs.Goes.{GoesOn, alone_now, ended_less, same_marks, sessions_now}
+use Rattle.tt_state_parts.proofs.Goes.{GoesOn, alone_now, ended_less, idle_now, same_marks, sessions_now}
 use Rattle.tt_state_parts.proofs.Histories.{contents_same, stands_sound}
 use Rattle.tt_state_parts.proofs.Lookups.{live_tied}
 use Rattle.tt_state_parts.proofs.Refusals.{create_asked, create_is, create_over, create_refusal, plain_create}
 use Rattle.tt_state_parts.proofs.Steps.{define_done, define_refused, define_starved, define_step}
+use Rattle.tt_state_parts.proofs.TrueFacts.{IsTrueEntry, adds_no_part}
 use Rattle.tt_state_parts.proofs.Turns.{IsNext, is_next, said_built}
 use Rattle.tt_state_parts.specs.Chronicle.{Chronicle, IsNextRead, entry_at, rows_of, store_of}
 use Rattle.tt_state_parts.specs.Keeps.{KeepsTables, StandsFor, is_live_as, table_of}
@@ -82,6 +83,10 @@ module _ (chronicle : Chronicle) (kept : Kept) (room session index : ℕ) (c : C
       ∙ beside_over (table_of store.tally) create (table_asked asked create.table)
       ∙ sym (create_refusal chronicle.program store session index c)
 
+  -- a definition adds and takes away no part
+  moves_none : (t : Told) → IsTrueEntry built chronicle.program chronicle.cap (rows_of chronicle) store (entry_at store.moment session index (kind.Define t))
+  moves_none t = adds_no_part built chronicle.program chronicle.cap (rows_of chronicle) store (entry_at store.moment session index (kind.Define t)) refl tt tt
+
   -- ---- refused, or without memory
 
   pub refused_goes : (why : Refusal) → refusal_kept kept create (tree.Create create) ≡ Some why
@@ -91,7 +96,7 @@ module _ (chronicle : Chronicle) (kept : Kept) (room session index : ℕ) (c : C
     applied store (ended_with asked (reply.Refused why)),
     ended_goes chronicle kept room session index (Ok (tree.Create create)) stands next (kind.Define (told.Refused (refusal_number why))) (reply.Refused why)
         (define_step built chronicle.program store session index asked (told.Refused (refusal_number why)) (ended_with asked (reply.Refused why)) read
-        (define_refused asked (CreatesTable create) closed refl why (sym refused_as ∙ e)) refl) refl,
+        (define_refused asked (CreatesTable create) closed refl why (sym refused_as ∙ e)) refl) refl (moves_none (told.Refused (refusal_number why))),
   )
 
   pub starved_goes : (after : Plain) × GoesOn chronicle (with_ended chronicle.program kept session index) (entry_at store.moment session index (kind.Define told.Memory)) after (Some reply.Memory)
@@ -100,7 +105,7 @@ module _ (chronicle : Chronicle) (kept : Kept) (room session index : ℕ) (c : C
     applied store (ended_with asked reply.Memory),
     ended_goes chronicle kept room session index (Ok (tree.Create create)) stands next (kind.Define told.Memory) reply.Memory
         (define_step built chronicle.program store session index asked told.Memory (ended_with asked reply.Memory) read
-        (define_starved asked (CreatesTable create) closed refl) refl) refl,
+        (define_starved asked (CreatesTable create) closed refl) refl) refl (moves_none told.Memory),
   )
 
   -- ---- made
@@ -155,12 +160,14 @@ module _ (chronicle : Chronicle) (kept : Kept) (room session index : ℕ) (c : C
           step = define_step built chronicle.program store session index asked told.Done (defined asked changes) read (define_done asked (CreatesTable create) closed refl changes (sym refused_as ∙ e) changes_are) refl;
           less = ended_less chronicle.program store defined_store session index next.lines next.state done next.turn refl refl refl;
           few = omega (arith, length_push store.tables made);
+          true_entry = moves_none told.Done;
           tables = subst (λ (rows : List (List Row)). KeepsTables (store.tables ++ made ∷ []) (more store.tally (store.moment + 1)) rows now) (sym (contents_same built chronicle.program (rows_of chronicle) (store, entry) refl)) (made_tables e);
           sessions = record {
             moment = ap (λ m. m + 1) stands.sessions.moment;
             sessions = sessions_now chronicle.program store defined_store session index next.lines next.state done next.turn refl kept.sessions stands.sessions.sessions;
             marks = same_marks chronicle.program store defined_store session index next.lines next.state done next.turn refl kept.marks stands.sessions.marks (ap (λ (s : PlainSession). s.marks) at);
             pins = stands.sessions.pins;
+            idle = idle_now chronicle.program store defined_store session index next.lines next.state done next.turn refl stands.sessions.idle (λ none. stands.sessions.idle session next.state next.turn.state_is next.idle) (λ other ne. refl);
             points = ap (λ ps. slice_set ps (point_place chronicle.program session index) (Some (kept.moment + 1))) stands.sessions.points ∙ ap (λ m. slice_set store.points (point_place chronicle.program session index) (Some (m + 1))) stands.sessions.moment;
             alone = alone_now chronicle.program store defined_store session index next.lines next.state done next.turn refl stands.sessions.alone closed;
             settled = stands.sessions.settled;

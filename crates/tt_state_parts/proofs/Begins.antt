@@ -13,8 +13,10 @@ use Rattle.tt_plain.specs.history.Replay.{pairs_of, replay_from, replay_of, stor
 use Rattle.tt_plain.specs.law.Lists.{Every}
 use Rattle.tt_plain.specs.stored.Empty.{empty_store}
 use Rattle.tt_plain.specs.stored.Sessions.{new_session}
+use Rattle.tt_built.specs.Built.{built}
 use Rattle.tt_state_parts.proofs.Lists.{map_twice}
 use Rattle.tt_state_parts.proofs.Owed.{owed_first}
+use Rattle.tt_state_parts.proofs.TrueFacts.{no_facts}
 use Rattle.tt_state_parts.specs.Keeps.{KeepsSessions, KeepsTables, StandsFor, mark_of, session_of}
 use Rattle.tt_state_parts.specs.Moves.{first_kept}
 use Rattle.tt_state_parts.specs.Owed.{entry_limit, owed}
@@ -47,6 +49,7 @@ first_sessions program = record {
   sessions = sym (map_twice session_of (λ (_ : SessionText). new_session) program.sessions);
   marks = λ session. ap (λ (s : PlainSession). map (mark_of session) s.marks) (sym (all_new program.sessions session));
   pins = λ session. refl;
+  idle = λ session state at none. refl;
   points = refl;
   alone = all_alone program.sessions;
   settled = refl;
@@ -60,13 +63,15 @@ no_tables : (program : Script) → length (empty_store program).tables ≤ 0
 unfolding empty_store
 no_tables program = omega arith
 
-pub begins : (program : Script) (cap room : ℕ) → IsProgram program → entry_limit program ≤ room → StandsFor (record { program = program; cap = cap; history = [] }) (first_kept program) room
+pub begins : (program : Script) (cap room : ℕ) → IsProgram program → (1 ≤ cap) × (cap ≤ 65536) → entry_limit program ≤ room → StandsFor (record { program = program; cap = cap; history = [] }) (first_kept program) room
 unfolding store_after contents_of pairs_of replay_of replay_from
-begins program cap room limits roomy = record {
+begins program cap room limits capped roomy = record {
   legal = record { run = (empty_store program, []); replayed = refl };
+  true_facts = no_facts built program cap;
   tables = first_tables program;
   sessions = first_sessions program;
   limits = limits;
+  capped = capped;
   few = no_tables program;
   counted = omega (arith, owed_store program);
   roomy = omega (arith, owed_store program, roomy);

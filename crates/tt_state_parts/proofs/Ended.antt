@@ -16,8 +16,9 @@ use Rattle.tt_plain.specs.stored.Points.{point_place}
 use Rattle.tt_plain.specs.stored.Sessions.{new_session, session_at}
 use Rattle.tt_plain.proofs.law.Lists.{every_at}
 use Rattle.tt_built.specs.Built.{built}
-use Rattle.tt_state_parts.proofs.Goes.{GoesOn, alone_now, ended_less, same_marks, sessions_now, tables_stay}
+use Rattle.tt_state_parts.proofs.Goes.{GoesOn, alone_now, ended_less, idle_now, same_marks, sessions_now, tables_stay}
 use Rattle.tt_state_parts.proofs.Histories.{contents_same}
+use Rattle.tt_state_parts.proofs.TrueFacts.{IsTrueEntry}
 use Rattle.tt_state_parts.proofs.Turns.{IsNext}
 use Rattle.tt_state_parts.specs.Chronicle.{Chronicle, entry_at, rows_of, store_of}
 use Rattle.tt_state_parts.specs.Keeps.{KeepsSessions, StandsFor}
@@ -47,14 +48,16 @@ module _ (chronicle : Chronicle) (kept : Kept) (room session index : ℕ) (read 
 
   -- a statement that is refused, or finds no memory
   pub ended_goes : (k : EntryKind) (reply : Reply) → step_of built chronicle.program store (entry_at store.moment session index k) ≡ Some (ended reply, Some reply) → parts_added k ≡ []
+      → IsTrueEntry built chronicle.program chronicle.cap (rows_of chronicle) store (entry_at store.moment session index k)
       → GoesOn chronicle (with_ended chronicle.program kept session index) (entry_at store.moment session index k) (ended reply) (Some reply)
   unfolding applied ended_with
-  ended_goes k reply step none =
+  ended_goes k reply step none true_entry =
       let at : session_at store session ≡ next.state = state_is store session next.state next.turn.state_is in
       record {
         step = step;
         less = ended_less chronicle.program store (ended reply) session index next.lines next.state done next.turn refl refl refl;
         few = omega arith;
+        true_entry = true_entry;
         tables = tables_stay store.tables store.tally store.tally (rows_of chronicle) (contents_with built chronicle.program (rows_of chronicle) (store, entry_at store.moment session index k)) kept (with_ended chronicle.program kept session index)
             stands.tables refl refl (contents_same built chronicle.program (rows_of chronicle) (store, entry_at store.moment session index k) none) refl refl refl;
         sessions = record {
@@ -62,6 +65,7 @@ module _ (chronicle : Chronicle) (kept : Kept) (room session index : ℕ) (read 
           sessions = sessions_now chronicle.program store (ended reply) session index next.lines next.state done next.turn refl kept.sessions stands.sessions.sessions;
           marks = same_marks chronicle.program store (ended reply) session index next.lines next.state done next.turn refl kept.marks stands.sessions.marks (ap (λ (s : PlainSession). s.marks) at);
           pins = stands.sessions.pins;
+          idle = idle_now chronicle.program store (ended reply) session index next.lines next.state done next.turn refl stands.sessions.idle (λ none. stands.sessions.idle session next.state next.turn.state_is next.idle) (λ other ne. refl);
           points = ap (λ ps. slice_set ps (point_place chronicle.program session index) (Some (kept.moment + 1))) stands.sessions.points ∙ ap (λ m. slice_set store.points (point_place chronicle.program session index) (Some (m + 1))) stands.sessions.moment;
           alone = alone_now chronicle.program store (ended reply) session index next.lines next.state done next.turn refl stands.sessions.alone (ap (λ (s : PlainSession). s.transaction) at ∙ closed_at store kept session next.state stands.sessions next.turn.state_is);
           settled = stands.sessions.settled;

@@ -3,6 +3,7 @@ use Rattle.std.specs.Prelude.{Bool, List, None, Option, Some, [], filter, is_som
 use Rattle.std.proofs.Common.{ap, arith, subst, sym, ◌∙◌}
 use Rattle.std.proofs.lemmas.Bool.{false≢true}
 use Rattle.std.proofs.lemmas.List.{length_push}
+use Rattle.std.proofs.lemmas.Option.{same_Some}
 use Rattle.tt_value.specs.declared.value.Row.{Row}
 use Rattle.tt_script.specs.declared.script.Script.{Script}
 use Rattle.tt_script.specs.declared.script.SessionText.{SessionText}
@@ -14,6 +15,7 @@ use Rattle.tt_plain.specs.declared.store.PlainTable.{PlainTable}
 use Rattle.tt_plain.specs.declared.tally.Tally.{Tally}
 use Rattle.tt_plain.specs.history.Contents.{contents_with}
 use Rattle.tt_plain.specs.history.Step.{step_of}
+use Rattle.tt_plain.specs.law.Bag.{pins_of}
 use Rattle.tt_plain.specs.law.Lists.{Every}
 use Rattle.tt_plain.proofs.Tests.{same_number, same_test}
 use Rattle.tt_plain.specs.declared.tally.TallyPart.{TallyPart}
@@ -29,17 +31,19 @@ use Rattle.tt_built.specs.Built.{built}
 use Rattle.tt_state_parts.proofs.Histories.{contents_longer, replay_longer, store_is, store_longer}
 use Rattle.tt_state_parts.proofs.Lists.{map_set, set_other, set_same}
 use Rattle.tt_state_parts.proofs.Owed.{fewer_owed, one_less_owed, owed-set}
+use Rattle.tt_state_parts.proofs.TrueFacts.{IsTrueEntry, facts_longer}
 use Rattle.tt_state_parts.proofs.Turns.{IsTurn}
 use Rattle.tt_state_parts.specs.Chronicle.{Chronicle, MadeEntry, rows_of, store_of}
-use Rattle.tt_state_parts.specs.Keeps.{AreMarks, AreNames, AreTrueParts, HasKeptParts, KeepsSessions, KeepsTables, StandsFor, mark_of, session_of, table_of}
+use Rattle.tt_state_parts.specs.Keeps.{AreMarks, AreNames, AreTrueParts, HasKeptParts, IdlePinNothing, KeepsSessions, KeepsTables, StandsFor, mark_of, session_of, table_of}
 use Rattle.tt_state_parts.specs.Kept.{Kept}
 use Rattle.tt_state_parts.specs.Owed.{owed, owed_by}
 
--- fewer entries are owed after one of a session
+-- fewer entries are owed after one of a session, and what it says of parts is true
 pub record GoesOn (chronicle : Chronicle) (now : Kept) (entry : Entry) (next : Plain) (told : Option Reply) : Type 0 where
   pub step : step_of built chronicle.program (store_of chronicle) entry ≡ Some (next, told)
   pub less : owed chronicle.program.sessions next.sessions < owed chronicle.program.sessions (store_of chronicle).sessions
   pub few : length next.tables ≤ length (store_of chronicle).tables + 1
+  pub true_entry : IsTrueEntry built chronicle.program chronicle.cap (rows_of chronicle) (store_of chronicle) entry
   pub tables : KeepsTables next.tables next.tally (contents_with built chronicle.program (rows_of chronicle) (store_of chronicle, entry)) now
   pub sessions : KeepsSessions next now
 
@@ -56,10 +60,12 @@ longer_stands chronicle kept now room left entry next told stands goes room_is =
     let rows = contents_longer built chronicle.program chronicle.history entry in
     record {
       legal = record { run = (next, run.1 ++ told ∷ []); replayed = replay_longer built chronicle.program chronicle.history entry run (next, told) stands.legal.replayed here };
+      true_facts = facts_longer built chronicle.program chronicle.cap chronicle.history entry stands.true_facts goes.true_entry;
       tables = subst (λ (contents : List (List Row)). KeepsTables (store_of (with_history chronicle (chronicle.history ++ entry ∷ []))).tables (store_of (with_history chronicle (chronicle.history ++ entry ∷ []))).tally contents now) (sym rows)
           (subst (λ (s : Plain). KeepsTables s.tables s.tally (contents_with built chronicle.program (rows_of chronicle) (store_of chronicle, entry)) now) (sym after) goes.tables);
       sessions = subst (λ (s : Plain). KeepsSessions s now) (sym after) goes.sessions;
       limits = stands.limits;
+      capped = stands.capped;
       few = omega (arith, stands.few, goes.few, length_push chronicle.history entry, ap (λ (s : Plain). length s.tables) after);
       counted = omega (arith, stands.counted, goes.less, length_push chronicle.history entry, ap (λ (s : Plain). owed chronicle.program.sessions s.sessions) after);
       roomy = omega (arith, stands.roomy, goes.less, room_is, ap (λ (s : Plain). owed chronicle.program.sessions s.sessions) after);
@@ -122,6 +128,20 @@ module _ (program : Script) (store next : Plain) (session index : ℕ) (lines : 
   same_marks marks are same =
       marks_now marks marks are (are session ∙ ap (λ (s : PlainSession). map (mark_of session) s.marks) at_before ∙ ap (map (mark_of session)) (sym same)) (λ other ne. refl)
 
+  -- what is pinned stays so, where nobody else's pins change and the session's go if it has no open statement
+  pub idle_now : IdlePinNothing store → (new.running ≡ None → pins_of next.tally session ≡ []) → ((other : ℕ) → other ≢ session → pins_of next.tally other ≡ pins_of store.tally other) → IdlePinNothing next
+  idle_now idle own others other found at none = by (other == session) refl
+    where
+      by : (b : Bool) → (other == session) ≡ b → pins_of next.tally other ≡ []
+      by true e =
+          let is : other ≡ session = same_number other session e in
+          let here : slice_get next.sessions session ≡ Some new = ap (λ (ss : List PlainSession). slice_get ss session) set ∙ set_same store.sessions session new state turn.state_is in
+          let same : new ≡ found = same_Some new found (sym here ∙ ap (λ s. slice_get next.sessions s) (sym is) ∙ at) in
+          ap (pins_of next.tally) is ∙ own (ap (λ (s : PlainSession). s.running) same ∙ none)
+      by false e =
+          let ne : other ≢ session = λ is. false≢true (sym e ∙ ap (λ (s : ℕ). s == session) is ∙ same_test session) in
+          others other ne ∙ idle other found (sym (ap (λ (ss : List PlainSession). slice_get ss other) set ∙ set_other store.sessions session other new ne) ∙ at) none
+
   pub sessions_now : (sessions : List SessionState) → sessions ≡ map session_of store.sessions → slice_set sessions session (session_of new) ≡ map session_of next.sessions
   sessions_now sessions are = ap (λ ss. slice_set ss session (session_of new)) are ∙ sym (map_set session_of store.sessions session new) ∙ ap (map session_of) (sym set)
 
@@ -139,5 +159,5 @@ tables_stay tables old new contents now_contents kept now keeps layouts parts sa
   whole = ap (filter (λ (part : TallyPart). part.stored)) parts ∙ keeps.whole ∙ sym parts;
   parts = subst (AreTrueParts tables now_contents 1) (sym p) (subst (λ cs. AreTrueParts tables cs 1 kept.parts) (sym same) keeps.parts);
   contents = ap (λ (cs : List (List Row)). length cs) same ∙ keeps.contents ∙ ap (λ (ps : List StoredPart). length ps) (sym p);
-  layouts = subst (λ (ts : List TableState). Every (HasKeptParts (length now.parts)) ts) (sym t) (subst (λ (ps : List StoredPart). Every (HasKeptParts (length ps)) kept.tables) (sym p) keeps.layouts);
+  layouts = subst (λ (ts : List TableState). Every (HasKeptParts now.parts) ts) (sym t) (subst (λ (ps : List StoredPart). Every (HasKeptParts ps) kept.tables) (sym p) keeps.layouts);
 }

@@ -4,7 +4,7 @@ use Rattle.tt_layout.specs.Numbers.{has}
 use Rattle.tt_marks.specs.Marks.{marks_of}
 use Rattle.tt_marks.specs.declared.mark.Mark.{Mark}
 use Rattle.tt_names.specs.Registry.{Registry, live_of}
-use Rattle.tt_partition.specs.Cuts.{table_with}
+use Rattle.tt_partition.specs.Cuts.{kinds_of, table_with}
 use Rattle.tt_partition.specs.Image.{image_of}
 use Rattle.tt_plain.specs.declared.store.Plain.{Plain}
 use Rattle.tt_plain.specs.declared.store.PlainMark.{PlainMark}
@@ -15,12 +15,14 @@ use Rattle.tt_plain.specs.declared.tally.Tally.{Tally}
 use Rattle.tt_plain.specs.declared.tally.TallyPin.{TallyPin}
 use Rattle.tt_plain.specs.history.Contents.{rows_numbered}
 use Rattle.tt_plain.specs.history.Replay.{IsLegal}
+use Rattle.tt_plain.specs.history.TrueFacts.{HasTrueFacts}
 use Rattle.tt_plain.specs.law.Bag.{pins_of}
 use Rattle.tt_plain.specs.law.Lists.{Every}
 use Rattle.tt_plain.specs.stored.Sessions.{session_at}
 use Rattle.tt_plain.specs.stored.Tables.{is_live}
 use Rattle.tt_plain.specs.tally.Facts.{facts_of_part, facts_of_table, stored_parts}
 use Rattle.tt_script.specs.Program.{IsProgram}
+use Rattle.tt_value.specs.declared.value.Kind.{Kind}
 use Rattle.tt_value.specs.declared.value.Row.{Row}
 use Rattle.tt_value.specs.declared.value.Schema.{Schema}
 use Rattle.tt_built.specs.Built.{built}
@@ -28,7 +30,7 @@ use Rattle.tt_state_parts.specs.declared.part.StoredPart.{StoredPart}
 use Rattle.tt_state_parts.specs.declared.state.SessionState.{SessionState}
 use Rattle.tt_state_parts.specs.declared.state.TableState.{TableState}
 use Rattle.tt_state_parts.specs.Chronicle.{Chronicle, rows_of, store_of}
-use Rattle.tt_state_parts.specs.Kept.{Kept}
+use Rattle.tt_state_parts.specs.Kept.{Kept, part_kept}
 use Rattle.tt_state_parts.specs.Owed.{entry_limit, owed}
 
 -- ---- what is kept of a table and of a session
@@ -64,6 +66,11 @@ AreMarks store marks = (session : ℕ) → marks_of session marks ≡ map (mark_
 abbrev pub ArePins : Tally → List TallyPin → Type 0
 ArePins tally pins = (session : ℕ) → filter (λ (pin : TallyPin). pin.session == session) pins ≡ pins_of tally session
 
+-- a session without an open statement pins nothing
+abbrev pub IdlePinNothing : Plain → Type 0
+IdlePinNothing store =
+    (session : ℕ) (state : PlainSession) → slice_get store.sessions session ≡ Some state → state.running ≡ None → pins_of store.tally session ≡ []
+
 -- ---- parts
 
 abbrev pub no_schema : Schema
@@ -94,9 +101,14 @@ AreTrueParts tables contents number (part ∷ parts) = IsTruePart tables content
 abbrev pub ArePartNumbers : ℕ → List ℕ → Type 0
 ArePartNumbers count numbers = (number : ℕ) → has numbers number ≡ true → (1 ≤ number) × (number ≤ count)
 
--- each number in a layout of the table is that of a kept part
-abbrev pub HasKeptParts : ℕ → TableState → Type 0
-HasKeptParts count table = Every (λ (layout : ℕ × List ℕ). ArePartNumbers count layout.1) table.facts.layouts
+-- each of these numbers is that of a kept part, which has these kinds
+abbrev pub AreKeptParts : List StoredPart → List Kind → List ℕ → Type 0
+AreKeptParts parts kinds numbers =
+    (number : ℕ) → has numbers number ≡ true → (1 ≤ number) × (number ≤ length parts) × ((part_kept parts number).kinds ≡ kinds)
+
+-- each number in a layout of the table is that of a kept part, which has the kinds of the table's columns
+abbrev pub HasKeptParts : List StoredPart → TableState → Type 0
+HasKeptParts parts table = Every (λ (layout : ℕ × List ℕ). AreKeptParts parts (kinds_of table.schema) layout.1) table.facts.layouts
 
 -- ---- the whole
 
@@ -108,7 +120,7 @@ pub record KeepsTables (all : List PlainTable) (tally : Tally) (rows : List (Lis
   pub whole : stored_parts tally ≡ tally.parts
   pub parts : AreTrueParts all rows 1 kept.parts
   pub contents : length rows ≡ length kept.parts
-  pub layouts : Every (HasKeptParts (length kept.parts)) kept.tables
+  pub layouts : Every (HasKeptParts kept.parts) kept.tables
 
 -- What is kept of sessions. By now none has a transaction, so nothing is pending.
 pub record KeepsSessions (store : Plain) (kept : Kept) : Type 0 where
@@ -116,16 +128,20 @@ pub record KeepsSessions (store : Plain) (kept : Kept) : Type 0 where
   pub sessions : kept.sessions ≡ map session_of store.sessions
   pub marks : AreMarks store kept.marks
   pub pins : ArePins store.tally kept.pins
+  pub idle : IdlePinNothing store
   pub points : kept.points ≡ store.points
   pub alone : Every (λ (state : PlainSession). state.transaction ≡ false) store.sessions
   pub settled : store.tally.pending ≡ []
 
--- The catalog stands for its program and its history, and for each entry that the statements may still make there is room.
+-- The catalog stands for its program and its history, whose parts are cut at its length, and for each entry that the statements may
+-- still make there is room.
 pub record StandsFor (chronicle : Chronicle) (kept : Kept) (room : ℕ) : Type 0 where
   pub legal : IsLegal built chronicle.program chronicle.history
+  pub true_facts : HasTrueFacts built chronicle.program chronicle.cap chronicle.history
   pub tables : KeepsTables (store_of chronicle).tables (store_of chronicle).tally (rows_of chronicle) kept
   pub sessions : KeepsSessions (store_of chronicle) kept
   pub limits : IsProgram chronicle.program
+  pub capped : (1 ≤ chronicle.cap) × (chronicle.cap ≤ 65536)
   pub few : length (store_of chronicle).tables ≤ length chronicle.history
   pub counted : length chronicle.history + owed chronicle.program.sessions (store_of chronicle).sessions ≤ entry_limit chronicle.program
   pub roomy : owed chronicle.program.sessions (store_of chronicle).sessions ≤ room

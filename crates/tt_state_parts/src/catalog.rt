@@ -118,9 +118,10 @@ impl Catalog {
         })
     }
 
-    /// The most rows of a partition.
+    /// The most rows of a partition, 1 to 65,536.
     pub fn cap(&self) -> u32
-        ensures { result ≡ self.now.cap }
+        ensures cap { result ≡ self.now.cap }
+        ensures range { (1 ≤ result) × (result ≤ 65536) }
     {
         self.cap
     }

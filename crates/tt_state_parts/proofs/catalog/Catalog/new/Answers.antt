@@ -13,4 +13,4 @@ invariant_of-result c =
     let limits : IsProgram c.args.program.now = c.script-script.ensures.sound in
     let room : c.entry_room.result ≡ entry_limit c.args.program.now = c.entry_room.ensures ∙ ap entry_limit c.script-script.ensures.value in
     let roomy : entry_limit c.args.program.now ≤ c.in_ok-with_room.field-0.room = omega (arith, room, c.in_ok-with_room.ensures.room) in
-    rw (c.in_ok-share.ensures, c.in_ok-with_room.ensures.empty, c.in_ok-first_state.ensures, c.script-script.ensures.value) (begins c.args.program.now c.args.cap _ limits roomy)
+    rw (c.in_ok-share.ensures, c.in_ok-with_room.ensures.empty, c.in_ok-first_state.ensures, c.script-script.ensures.value) (begins c.args.program.now c.args.cap _ limits c.requires.cap roomy)
