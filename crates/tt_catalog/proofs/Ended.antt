@@ -1,5 +1,5 @@
 -- What is kept where an open statement has ended without a change: it pins nothing, and its marks are again those before it.
-use Rattle.std.specs.Prelude.{Bool, List, None, Ok, Result, Some, [], false, filter, fold, if◌then◌else◌, map, nat_lt, not, refl, slice_set, true, ℕ, ◌++◌, ◌+◌, ◌==◌, ◌∷◌, ◌≡◌, ◌≢◌}
+use Rattle.std.specs.Prelude.{Bool, List, None, Ok, Option, Result, Some, [], false, filter, fold, if◌then◌else◌, map, nat_lt, not, refl, slice_set, true, unwrap_or, ℕ, ◌++◌, ◌+◌, ◌==◌, ◌∷◌, ◌≡◌, ◌≢◌}
 use Rattle.std.proofs.Common.{ap, arith, sym, ◌∙◌}
 use Rattle.std.proofs.lemmas.Bool.{false≢true, le-ltb, lt-ltb, ltb-false, ltb-true, ne_eqb}
 use Rattle.std.proofs.lemmas.List.Elements.{filter-append}
@@ -10,7 +10,8 @@ use Rattle.tt_marks.specs.Changes.{released}
 use Rattle.tt_marks.specs.Marks.{marks_of}
 use Rattle.tt_marks.specs.declared.mark.Mark.{Mark}
 use Rattle.tt_plain.proofs.Tests.{same_number, same_test}
-use Rattle.tt_plain.specs.asked.Asked.{Asked}
+use Rattle.tt_plain.specs.Answers.{◌>>=◌}
+use Rattle.tt_plain.specs.asked.Asked.{Asked, request_asked}
 use Rattle.tt_plain.specs.asked.Turns.{asked_with}
 use Rattle.tt_plain.specs.declared.store.Plain.{Plain}
 use Rattle.tt_plain.specs.declared.store.PlainOpen.{PlainOpen}
@@ -22,6 +23,7 @@ use Rattle.tt_plain.specs.effect.Apply.{applied, changed_point}
 use Rattle.tt_plain.specs.effect.End.{answered}
 use Rattle.tt_plain.specs.effect.Ending.{ended_with}
 use Rattle.tt_plain.specs.history.Contents.{contents_with}
+use Rattle.tt_plain.specs.history.TrueFacts.{RemovesTouched, replaced_by}
 use Rattle.tt_plain.specs.law.Sound.{IsSound}
 use Rattle.tt_plain.specs.meaning.Outcome.{Answers, answer_seen, outcome_of, query_outcome}
 use Rattle.tt_plain.specs.stored.Points.{point_place}
@@ -29,10 +31,12 @@ use Rattle.tt_plain.specs.stored.Sessions.{session_at}
 use Rattle.tt_plain.specs.tally.Changes.{with_pins}
 use Rattle.tt_built.specs.Built.{built}
 use Rattle.tt_state_parts.proofs.Ended.{closed_at, state_is}
-use Rattle.tt_state_parts.proofs.Goes.{GoesOn, alone_now, ended_less, marks_now, same_marks, sessions_now, tables_stay}
+use Rattle.tt_state_parts.proofs.Goes.{GoesOn, alone_now, ended_less, idle_now, marks_now, same_marks, sessions_now, tables_stay}
 use Rattle.tt_state_parts.proofs.Histories.{contents_same, stands_sound}
-use Rattle.tt_state_parts.proofs.Lists.{all_behind}
+use Rattle.tt_state_parts.proofs.Filters.{filter_keeps, filter_none}
+use Rattle.tt_state_parts.proofs.Pins.{not_own, other_pins, own_gone, own_pins, pins_left}
 use Rattle.tt_state_parts.proofs.Steps.{abandon_starved, abandon_step, end_is, end_step}
+use Rattle.tt_state_parts.proofs.TrueFacts.{adds_no_part}
 use Rattle.tt_state_parts.proofs.Turns.{IsOpen, is_open}
 use Rattle.tt_state_parts.specs.Chronicle.{Chronicle, IsOpenRead, entry_at, rows_of, store_of}
 use Rattle.tt_state_parts.specs.Keeps.{ArePins, StandsFor, mark_of}
@@ -42,62 +46,14 @@ use Rattle.tt_history.specs.declared.history.EntryKind.TheVariants as kind
 use Rattle.tt_history.specs.declared.history.Told.TheVariants as told
 use Rattle.tt_history.specs.declared.reply.Reply.TheVariants as reply
 use Rattle.tt_sql.specs.declared.statement.Statement.TheVariants as tree
-use Rattle.tt_catalog.proofs.Filters.{filter_keeps, filter_none}
 use Rattle.tt_catalog.specs.Ends.{with_released, with_unpinned}
 
--- ---- what is left of pins and marks
+-- ---- what is left of marks
 
-not_own : (s other session : ℕ) → other ≢ session → (s == other) ≡ true → not (s == session) ≡ true
-not_own s other session ne e = ap not (ne_eqb s session (λ is. ne (sym (same_number s other e) ∙ is)))
-
-own_gone : (s other session : ℕ) → other ≡ session → (s == other) ≡ true → not (s == session) ≡ false
-own_gone s other session is e = ap not (ap (λ n. s == n) (sym is) ∙ e)
-
-without_pins : (session : ℕ) (pins : List TallyPin) → with_pins session [] pins ≡ filter (λ (pin : TallyPin). nat_lt pin.session session) pins ++ filter (λ (pin : TallyPin). nat_lt session pin.session) pins
-without_pins session pins = ap (λ xs. xs ++ filter (λ (pin : TallyPin). nat_lt session pin.session) pins) (all_behind (filter (λ (pin : TallyPin). nat_lt pin.session session) pins))
-
-pins_left : (session : ℕ) (tally : Tally) (pins : List TallyPin) → ArePins tally pins
-    → ArePins (record tally { pins = with_pins session [] tally.pins }) (filter (λ (pin : TallyPin). not (pin.session == session)) pins)
-pins_left session tally pins are other =
-    by (other == session) refl
-    ∙ sym (filter-append own (filter front tally.pins) (filter back tally.pins))
-    ∙ ap (filter own) (sym (without_pins session tally.pins))
-  where
-    own : TallyPin → Bool
-    own pin = pin.session == other
-
-    front : TallyPin → Bool
-    front pin = nat_lt pin.session session
-
-    back : TallyPin → Bool
-    back pin = nat_lt session pin.session
-
-    before : (b : Bool) → nat_lt other session ≡ b → other ≢ session → filter own tally.pins ≡ filter own (filter front tally.pins) ++ filter own (filter back tally.pins)
-    before true e ne =
-        let less = ltb-true other session e in
-        sym (all_behind (filter own tally.pins))
-        ∙ ap (λ xs. xs ++ []) (sym (filter_keeps own front tally.pins (λ pin is. lt-ltb pin.session session (omega (arith, less, same_number pin.session other is)))))
-        ∙ ap (λ ys. filter own (filter front tally.pins) ++ ys) (sym (filter_none own back tally.pins (λ pin is. le-ltb session pin.session (omega (arith, less, same_number pin.session other is)))))
-    before false e ne =
-        let le = ltb-false other session e in
-        sym (filter_keeps own back tally.pins (λ pin is. lt-ltb session pin.session (omega (arith, le, ne, same_number pin.session other is))))
-        ∙ ap (λ xs. xs ++ filter own (filter back tally.pins)) (sym (filter_none own front tally.pins (λ pin is. le-ltb pin.session session (omega (arith, le, same_number pin.session other is)))))
-
-    by : (b : Bool) → (other == session) ≡ b → filter own (filter (λ (pin : TallyPin). not (pin.session == session)) pins) ≡ filter own (filter front tally.pins) ++ filter own (filter back tally.pins)
-    by true e =
-        let is : other ≡ session = same_number other session e in
-        filter_none own (λ (pin : TallyPin). not (pin.session == session)) pins (λ pin f. own_gone pin.session other session is f)
-        ∙ ap (λ ys. [] ++ ys) (sym (filter_none own back tally.pins (λ pin f. le-ltb session pin.session (omega (arith, is, same_number pin.session other f)))))
-        ∙ ap (λ xs. xs ++ filter own (filter back tally.pins)) (sym (filter_none own front tally.pins (λ pin f. le-ltb pin.session session (omega (arith, is, same_number pin.session other f)))))
-    by false e =
-        let ne : other ≢ session = λ is. false≢true (sym e ∙ ap (λ n. n == session) is ∙ same_test session) in
-        filter_keeps own (λ (pin : TallyPin). not (pin.session == session)) pins (λ pin f. not_own pin.session other session ne f)
-        ∙ are other ∙ before (nat_lt other session) refl ne
-
-own_released : (session : ℕ) (marks : List Mark) → marks_of session (released session marks) ≡ []
+pub own_released : (session : ℕ) (marks : List Mark) → marks_of session (released session marks) ≡ []
 own_released session marks = filter_none (λ (mark : Mark). mark.session == session) (λ (mark : Mark). not (mark.session == session)) marks (λ mark e. own_gone mark.session session session refl e)
 
-others_stay : (session other : ℕ) (marks : List Mark) → other ≢ session → marks_of other (released session marks) ≡ marks_of other marks
+pub others_stay : (session other : ℕ) (marks : List Mark) → other ≢ session → marks_of other (released session marks) ≡ marks_of other marks
 others_stay session other marks ne = filter_keeps (λ (mark : Mark). mark.session == other) (λ (mark : Mark). not (mark.session == session)) marks (λ mark e. not_own mark.session other session ne e)
 
 -- ---- an open statement ended
@@ -109,10 +65,10 @@ module _ (chronicle : Chronicle) (kept : Kept) (room session index : ℕ) (read 
   abbrev asked : Asked
   asked = asked_with chronicle.program store session index read
 
-  sound : IsSound built chronicle.program store
+  pub sound : IsSound built chronicle.program store
   sound = stands_sound chronicle kept room stands
 
-  opened : IsOpen chronicle.program store session index asked seen
+  pub opened : IsOpen chronicle.program store session index asked seen
   opened = is_open chronicle.program store session index asked seen sound found
 
   no_transaction : opened.state.transaction ≡ false
@@ -121,14 +77,14 @@ module _ (chronicle : Chronicle) (kept : Kept) (room session index : ℕ) (read 
   at : session_at store session ≡ opened.state
   at = state_is store session opened.state opened.turn.state_is
 
-  closed : (session_at store session).transaction ≡ false
+  pub closed : (session_at store session).transaction ≡ false
   closed = ap (λ (s : PlainSession). s.transaction) at ∙ no_transaction
 
   -- outside a transaction there were no marks before
   unmarked : seen.marks_before ≡ []
   unmarked = ((sound.each session opened.state opened.turn.state_is).running seen opened.running).alone no_transaction
 
-  points_at : kept.points ≡ store.points → slice_set kept.points (point_place chronicle.program session index) (Some (kept.moment + 1)) ≡ slice_set store.points (point_place chronicle.program session index) (Some (store.moment + 1))
+  pub points_at : kept.points ≡ store.points → slice_set kept.points (point_place chronicle.program session index) (Some (kept.moment + 1)) ≡ slice_set store.points (point_place chronicle.program session index) (Some (store.moment + 1))
   points_at same =
       ap (λ ps. slice_set ps (point_place chronicle.program session index) (Some (kept.moment + 1))) same
       ∙ ap (λ m. slice_set store.points (point_place chronicle.program session index) (Some (m + 1))) stands.sessions.moment
@@ -151,6 +107,7 @@ module _ (chronicle : Chronicle) (kept : Kept) (room session index : ℕ) (read 
           step = abandon_step built chronicle.program store session index asked seen told.Memory (given_up (asked, seen) (ended_with asked reply.Memory)) found (abandon_starved asked seen) refl;
           less = ended_less chronicle.program store abandoned session index opened.lines opened.state given opened.turn refl refl refl;
           few = omega arith;
+          true_entry = adds_no_part built chronicle.program chronicle.cap (rows_of chronicle) store entry refl tt tt;
           tables = tables_stay store.tables store.tally (record store.tally { pins = with_pins session [] store.tally.pins }) (rows_of chronicle) (contents_with built chronicle.program (rows_of chronicle) (store, entry)) kept now_abandoned
               stands.tables refl refl (contents_same built chronicle.program (rows_of chronicle) (store, entry) refl) refl refl refl;
           sessions = record {
@@ -159,6 +116,7 @@ module _ (chronicle : Chronicle) (kept : Kept) (room session index : ℕ) (read 
             marks = marks_now chronicle.program store abandoned session index opened.lines opened.state given opened.turn refl kept.marks (released session kept.marks) stands.sessions.marks
                 (own_released session kept.marks ∙ ap (map (mark_of session)) (sym unmarked)) (λ other ne. others_stay session other kept.marks ne);
             pins = pins_left session store.tally kept.pins stands.sessions.pins;
+            idle = idle_now chronicle.program store abandoned session index opened.lines opened.state given opened.turn refl stands.sessions.idle (λ none. own_pins session store.tally.pins [] tt) (λ other ne. other_pins session store.tally.pins [] other tt ne);
             points = points_at stands.sessions.points;
             alone = alone_now chronicle.program store abandoned session index opened.lines opened.state given opened.turn refl stands.sessions.alone closed;
             settled = stands.sessions.settled;
@@ -191,6 +149,10 @@ module _ (chronicle : Chronicle) (kept : Kept) (room session index : ℕ) (q : Q
   unfolding outcome_of
   answers e = ap (λ o. Some (query_outcome o)) e
 
+  -- the end of a query removes nothing
+  removes_none : RemovesTouched built chronicle.program (rows_of chronicle) q_store (entry_at q_store.moment session index (kind.End [] [])) (kind.End [] [])
+  removes_none = sym (ap (λ (o : Option (Asked × PlainOpen)). unwrap_or (o >>= λ open_one. replaced_by (rows_of chronicle) open_one.0 open_one.1 (request_asked open_one.0)) []) found)
+
   own_point_settled : q_after.points ≡ slice_set q_store.points (point_place chronicle.program session index) (Some (q_store.moment + 1))
   unfolding applied
   own_point_settled =
@@ -206,6 +168,7 @@ module _ (chronicle : Chronicle) (kept : Kept) (room session index : ℕ) (q : Q
           step = end_step built chronicle.program q_store session index q_asked seen [] [] (answered q_asked rows) found (end_is q_asked seen (Answers rows) (answered q_asked rows) [] [] (answers e) refl) refl;
           less = ended_less chronicle.program q_store q_after session index q_opened.lines q_opened.state q_done q_opened.turn refl refl refl;
           few = omega arith;
+          true_entry = adds_no_part built chronicle.program chronicle.cap (rows_of chronicle) q_store entry refl removes_none tt;
           tables = tables_stay q_store.tables q_store.tally (record q_store.tally { pins = with_pins session [] q_store.tally.pins }) (rows_of chronicle) (contents_with built chronicle.program (rows_of chronicle) (q_store, entry)) kept now_answered
               stands.tables refl refl (contents_same built chronicle.program (rows_of chronicle) (q_store, entry) refl) refl refl refl;
           sessions = record {
@@ -214,6 +177,7 @@ module _ (chronicle : Chronicle) (kept : Kept) (room session index : ℕ) (q : Q
             marks = same_marks chronicle.program q_store q_after session index q_opened.lines q_opened.state q_done q_opened.turn refl kept.marks stands.sessions.marks
                 (ap (λ (s : PlainSession). s.marks) (at chronicle kept room session index (Ok (tree.Query q)) seen stands found));
             pins = pins_left session q_store.tally kept.pins stands.sessions.pins;
+            idle = idle_now chronicle.program q_store q_after session index q_opened.lines q_opened.state q_done q_opened.turn refl stands.sessions.idle (λ none. own_pins session q_store.tally.pins [] tt) (λ other ne. other_pins session q_store.tally.pins [] other tt ne);
             points = points_at chronicle kept room session index (Ok (tree.Query q)) seen stands found stands.sessions.points ∙ sym own_point_settled;
             alone = alone_now chronicle.program q_store q_after session index q_opened.lines q_opened.state q_done q_opened.turn refl stands.sessions.alone (closed chronicle kept room session index (Ok (tree.Query q)) seen stands found);
             settled = stands.sessions.settled;

@@ -1,4 +1,8 @@
 pub mod Ended
-pub mod Filters
+pub mod Held
+pub mod Holds
+pub mod Marked
 pub mod OneTable
+pub mod Opened
 pub mod Refused
+pub mod Started

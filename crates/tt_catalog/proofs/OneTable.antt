@@ -73,6 +73,10 @@ query_is q e =
     ap (λ (joins : List Join). record q { joins = joins }) (no_items q.joins d.0)
     ∙ ap (λ o. record q { joins = []; first = record q.first { clause = o } }) (none_is q.first.clause a.1)
 
+-- it reads one table
+pub alone_is : (q : Query) → is_built (tree.Query q) ≡ true → q.joins ≡ []
+alone_is q e = ap (λ (x : Query). x.joins) (query_is q e)
+
 -- the table is not live, or the typing of the statement over it
 abbrev pub table_over : TableName → Statement → Option PlainTable → Option Refusal
 table_over name s None = Some (refusal.UnknownTable (table_begin name))

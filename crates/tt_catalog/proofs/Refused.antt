@@ -12,8 +12,9 @@ use Rattle.tt_built.specs.Built.{built}
 use Rattle.tt_state_parts.proofs.Ended.{ended_goes}
 use Rattle.tt_state_parts.proofs.Goes.{GoesOn}
 use Rattle.tt_state_parts.proofs.Steps.{start_refused, start_step}
+use Rattle.tt_state_parts.proofs.TrueFacts.{adds_no_part}
 use Rattle.tt_state_parts.proofs.Turns.{is_next}
-use Rattle.tt_state_parts.specs.Chronicle.{Chronicle, IsNextRead, entry_at, store_of}
+use Rattle.tt_state_parts.specs.Chronicle.{Chronicle, IsNextRead, entry_at, rows_of, store_of}
 use Rattle.tt_state_parts.specs.Keeps.{StandsFor}
 use Rattle.tt_state_parts.specs.Kept.{Kept}
 use Rattle.tt_state_parts.specs.Moves.{IsReady, with_ended}
@@ -40,7 +41,8 @@ module _ (chronicle : Chronicle) (kept : Kept) (room session index place : ℕ) 
     applied store (ended_with asked (reply.Refused (refusal.Syntax place))),
     ended_goes chronicle kept room session index (Err place) stands (is_next chronicle.program store session index asked read) (kind.Start (told.Refused 1)) (reply.Refused (refusal.Syntax place))
         (start_step built chronicle.program store session index asked (told.Refused 1) (ended_with asked (reply.Refused (refusal.Syntax place))) read
-        (start_refused asked refl (refusal.Syntax place) refused_as) refl) refl,
+        (start_refused asked refl (refusal.Syntax place) refused_as) refl) refl
+        (adds_no_part built chronicle.program chronicle.cap (rows_of chronicle) store (entry_at store.moment session index (kind.Start (told.Refused 1))) refl tt tt),
   )
 
 -- what is taken from pins and marks leaves the statement ready to end

@@ -1,0 +1,73 @@
+use Rattle.std.proofs.Common.{◌∷◌, ◌++◌, [], Ok, sym, ap, ◌∙◌, subst, arith}
+use Rattle.tt_history.specs.declared.history.EntryKind.TheVariants as kind
+use Rattle.tt_history.specs.declared.history.Told.{Told}
+use Rattle.tt_plain.specs.Statements.{insertion}
+use Rattle.tt_state_parts.proofs.Goes.{GoesOn, goes_on, has_room, made}
+use Rattle.tt_state_parts.proofs.Histories.{early}
+use Rattle.tt_state_parts.proofs.Turns.{is_next, ready}
+use Rattle.tt_state_parts.specs.Chronicle.{Chronicle, IsNextRead, MadeEntry, entry_at, store_of}
+use Rattle.tt_state_parts.specs.Kept.{Kept}
+use Rattle.tt_catalog.proofs.Holds.{insert_target}
+use Rattle.tt_catalog.proofs.Opened.{insert_ready, insert_starts, store_then}
+use Rattle.tt_catalog.specs.Starts.{told_by}
+use Rattle.tt_catalog.specs.Tickets.{reply_to_start}
+use Rattle.tt_catalog.proofs.starting.begin_insert.Goals as goal
+
+pub tell_start-told-requires : goal.tell_start-told-requires
+tell_start-told-requires c =
+    let next = subst (λ (b : Chronicle). IsNextRead b c.args.session c.args.index (Ok (insertion c.args.insert.now))) (sym c.cat.view_is) c.requires.next in
+    insert_ready _ _ _ _ _ _ _ c.start_insert-started.ensures (ready _ _ _ _ _ _ _ c.cat.invariant (is_next _ _ _ _ _ next).turn)
+
+pub session_entry-entry-requires : goal.session_entry-entry-requires
+session_entry-entry-requires c = omega (arith, c.cat.invariant.sessions.moment, early _ _ _ c.cat.invariant)
+
+pub push-requires : goal.push-requires
+push-requires c =
+    let next = subst (λ (b : Chronicle). IsNextRead b c.args.session c.args.index (Ok (insertion c.args.insert.now))) (sym c.cat.view_is) c.requires.next in
+    let chronicle : Chronicle = record { program = c.cat.inside.program; cap = c.cat.inside.cap; history = c.cat.inside.history.list } in
+    let starts = insert_starts chronicle _ _ _ c.args.session c.args.index c.args.insert.now c.args.tuples.now c.start_insert-started.result c.cat.invariant next c.requires.tuples c.start_insert-started.ensures in
+    has_room _ _ _ _ _ _ _ c.cat.invariant starts.goes
+
+pub invariant_of-cat : goal.invariant_of-cat
+invariant_of-cat c =
+    let next = subst (λ (b : Chronicle). IsNextRead b c.args.session c.args.index (Ok (insertion c.args.insert.now))) (sym c.cat.view_is) c.requires.next in
+    let chronicle : Chronicle = record { program = c.cat.inside.program; cap = c.cat.inside.cap; history = c.cat.inside.history.list } in
+    let starts = insert_starts chronicle _ _ _ c.args.session c.args.index c.args.insert.now c.args.tuples.now c.start_insert-started.result c.cat.invariant next c.requires.tuples c.start_insert-started.ensures in
+    let longer = c.push.ensures.entries ∙ ap (λ e. c.cat.inside.history.list ++ e ∷ [])
+    (c.session_entry-entry.ensures ∙ ap (λ (t : Told). entry_at c.cat.inside.state.moment c.args.session c.args.index (kind.Start t)) c.tell_start-told.ensures.told
+    ∙ ap (λ m. entry_at m c.args.session c.args.index (kind.Start (told_by c.start_insert-started.result))) c.cat.invariant.sessions.moment) in
+    let went = subst (λ (k : Kept). GoesOn chronicle k (entry_at (store_of chronicle).moment c.args.session c.args.index (kind.Start (told_by c.start_insert-started.result))) starts.after (reply_to_start c.start_insert-started.result)) (sym c.tell_start-told.ensures.kept) starts.goes in
+    goes_on _ _ _ _ _ _ _ _ _ c.cat.invariant went longer c.push.ensures.room
+
+pub returns-clause-entry : goal.returns-clause-entry
+returns-clause-entry c =
+    let next = subst (λ (b : Chronicle). IsNextRead b c.args.session c.args.index (Ok (insertion c.args.insert.now))) (sym c.cat.view_is) c.requires.next in
+    let chronicle : Chronicle = record { program = c.cat.inside.program; cap = c.cat.inside.cap; history = c.cat.inside.history.list } in
+    let starts = insert_starts chronicle _ _ _ c.args.session c.args.index c.args.insert.now c.args.tuples.now c.start_insert-started.result c.cat.invariant next c.requires.tuples c.start_insert-started.ensures in
+    let longer = c.push.ensures.entries ∙ ap (λ e. c.cat.inside.history.list ++ e ∷ [])
+    (c.session_entry-entry.ensures ∙ ap (λ (t : Told). entry_at c.cat.inside.state.moment c.args.session c.args.index (kind.Start t)) c.tell_start-told.ensures.told
+    ∙ ap (λ m. entry_at m c.args.session c.args.index (kind.Start (told_by c.start_insert-started.result))) c.cat.invariant.sessions.moment) in
+    let new : Chronicle = record { program = c.cat.inside.program; cap = c.cat.inside.cap; history = c.push.new.self.list } in
+    subst (λ (b : Chronicle). (t : Told) × MadeEntry b new (entry_at (store_of b).moment c.args.session c.args.index (kind.Start t)) (reply_to_start c.start_insert-started.result)) c.cat.view_is
+    (told_by c.start_insert-started.result, made chronicle _ _ starts.after _ _ starts.goes longer)
+
+pub returns-clause-ticket : goal.returns-clause-ticket
+returns-clause-ticket c =
+    let next = subst (λ (b : Chronicle). IsNextRead b c.args.session c.args.index (Ok (insertion c.args.insert.now))) (sym c.cat.view_is) c.requires.next in
+    let chronicle : Chronicle = record { program = c.cat.inside.program; cap = c.cat.inside.cap; history = c.cat.inside.history.list } in
+    let starts = insert_starts chronicle _ _ _ c.args.session c.args.index c.args.insert.now c.args.tuples.now c.start_insert-started.result c.cat.invariant next c.requires.tuples c.start_insert-started.ensures in
+    let longer = c.push.ensures.entries ∙ ap (λ e. c.cat.inside.history.list ++ e ∷ [])
+    (c.session_entry-entry.ensures ∙ ap (λ (t : Told). entry_at c.cat.inside.state.moment c.args.session c.args.index (kind.Start t)) c.tell_start-told.ensures.told
+    ∙ ap (λ m. entry_at m c.args.session c.args.index (kind.Start (told_by c.start_insert-started.result))) c.cat.invariant.sessions.moment) in
+    let stands = goes_on _ _ _ _ _ _ _ _ _ c.cat.invariant starts.goes longer c.push.ensures.room in
+    starts.gives c.push.new.self.list _ stands (store_then chronicle _ _ _ _ _ starts.goes longer)
+
+pub returns-clause-typed : goal.returns-clause-typed
+returns-clause-typed c =
+    let next = subst (λ (b : Chronicle). IsNextRead b c.args.session c.args.index (Ok (insertion c.args.insert.now))) (sym c.cat.view_is) c.requires.next in
+    let chronicle : Chronicle = record { program = c.cat.inside.program; cap = c.cat.inside.cap; history = c.cat.inside.history.list } in
+    let starts = insert_starts chronicle _ _ _ c.args.session c.args.index c.args.insert.now c.args.tuples.now c.start_insert-started.result c.cat.invariant next c.requires.tuples c.start_insert-started.ensures in
+    starts.typed
+
+pub returns-clause-target : goal.returns-clause-target
+returns-clause-target c = insert_target _ _ _ _ _ _ c.start_insert-started.ensures

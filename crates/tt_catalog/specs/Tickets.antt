@@ -1,0 +1,102 @@
+-- Tickets of open statements: the tables that they hold, with the parts that are pinned for them.
+use Rattle.std.specs.List.{AllZip}
+use Rattle.std.specs.Prelude.{List, None, Ok, Option, Some, [], flat_map, map, option_to_list, ℕ, ⊤, ◌++◌, ◌∷◌, ◌≡◌}
+use Rattle.tt_value.specs.declared.value.Row.{Row}
+use Rattle.tt_value.specs.declared.value.Schema.{Schema}
+use Rattle.tt_value.specs.values.Bags.{bag_of}
+use Rattle.tt_sql.specs.declared.statement.Statement.{Statement}
+use Rattle.tt_history.specs.declared.history.Told.{Told}
+use Rattle.tt_history.specs.declared.reply.Reply.{Reply}
+use Rattle.tt_partition.specs.Cuts.{table_with}
+use Rattle.tt_partition.specs.Table.{Table}
+use Rattle.tt_plain.specs.TypingRefusal.{typing_refusal}
+use Rattle.tt_plain.specs.declared.store.PlainOpen.{PlainOpen}
+use Rattle.tt_plain.specs.declared.tally.TallyPin.{TallyPin}
+use Rattle.tt_plain.specs.history.Contents.{rows_numbered}
+use Rattle.tt_plain.specs.law.Bag.{pins_of}
+use Rattle.tt_plain.specs.meaning.Outcome.{schema_numbered}
+use Rattle.tt_state_parts.specs.Chronicle.{Chronicle, IsOpenRead, MadeEntry, entry_at, rows_of, store_of}
+use Rattle.tt_state_parts.specs.declared.ticket.Seen.{Seen}
+use Rattle.tt_state_parts.specs.declared.ticket.Started.{Started}
+use Rattle.tt_state_parts.specs.declared.ticket.Ticket.{Ticket}
+use Rattle.tt_history.specs.declared.history.EntryKind.TheVariants as kind
+use Rattle.tt_history.specs.declared.reply.Reply.TheVariants as reply
+use Rattle.tt_state_parts.specs.declared.ticket.Started.TheVariants as started
+
+-- ---- tables that are held
+
+-- the part of a number, with its rows as a table of this schema
+abbrev pub part_of : Chronicle → Schema → ℕ → ℕ × Table
+part_of chronicle schema number = (number, table_with schema (rows_numbered (rows_of chronicle) number))
+
+-- A table that is held for a pin: its schema, and just the pinned parts, in the order of their numbers, each with its contents.
+pub record IsHeld (chronicle : Chronicle) (pin : TallyPin) (held : Seen) : Type 0 where
+  pub table : held.table ≡ pin.table
+  pub schema : schema_numbered (store_of chronicle) pin.table ≡ Some held.schema
+  pub parts : held.parts ≡ map (part_of chronicle held.schema) pin.parts
+
+-- the rows of the parts that are held, in order
+abbrev pub rows_held : Seen → List Row
+rows_held held = flat_map (λ (part : ℕ × Table). part.1.rows) held.parts
+
+-- the parts form what the open statement sees of the table
+abbrev pub StandsForRows : ℕ × List Row → Seen → Type 0
+StandsForRows seen held = (held.table ≡ seen.0) × (bag_of (rows_held held) ≡ seen.1)
+
+-- of the target of an INSERT no part is held
+pub record IsTargetOf (chronicle : Chronicle) (seen : ℕ × List Row) (held : Seen) : Type 0 where
+  pub table : held.table ≡ seen.0
+  pub schema : schema_numbered (store_of chronicle) seen.0 ≡ Some held.schema
+  pub parts : held.parts ≡ []
+
+-- the target of the ticket is that of the open statement, if it has one
+abbrev pub HasTarget : Chronicle → Option (ℕ × List Row) → Option Seen → Type 0
+HasTarget chronicle None None = ⊤
+HasTarget chronicle (Some seen) (Some held) = IsTargetOf chronicle seen held
+HasTarget chronicle _ _ = ⊥
+
+-- ---- tickets
+
+-- The ticket is that of its session's open statement, which is this one.
+pub record IsTicketOf (chronicle : Chronicle) (ticket : Ticket) (statement : Statement) : Type 0 where
+  pub seen : PlainOpen
+  pub is_open : IsOpenRead chronicle ticket.session ticket.index (Ok statement) seen
+  pub sources : AllZip (IsHeld chronicle) (pins_of (store_of chronicle).tally ticket.session) ticket.sources
+  pub bags : AllZip StandsForRows seen.sources ticket.sources
+  pub target : HasTarget chronicle seen.target ticket.target
+
+-- the schemas of its tables, in the order in which the statement names them
+abbrev pub schemas_held : Ticket → List Schema
+schemas_held ticket = map (λ (held : Seen). held.schema) (option_to_list ticket.target ++ ticket.sources)
+
+-- ---- starts
+
+-- a start gives the ticket of its statement
+abbrev pub GivesTicket : Chronicle → ℕ → ℕ → Statement → Started → Type 0
+GivesTicket new session index statement (started.Ticket ticket) = (ticket.session ≡ session) × (ticket.index ≡ index) × IsTicketOf new ticket statement
+GivesTicket new session index statement _ = ⊤
+
+-- a statement that begins is not refused for its columns and kinds over the tables that its ticket holds
+abbrev pub BeginsTyped : Statement → Started → Type 0
+BeginsTyped statement (started.Ticket ticket) = typing_refusal (schemas_held ticket) statement ≡ None
+BeginsTyped statement _ = ⊤
+
+-- a query that begins holds one table, from which it reads
+abbrev pub HoldsSource : Started → Type 0
+HoldsSource (started.Ticket ticket) = (held : Seen) × (ticket.sources ≡ held ∷ []) × (ticket.target ≡ None)
+HoldsSource _ = ⊤
+
+-- an INSERT of written rows that begins holds its target alone
+abbrev pub HoldsTarget : Started → Type 0
+HoldsTarget (started.Ticket ticket) = (held : Seen) × (ticket.sources ≡ []) × (ticket.target ≡ Some held)
+HoldsTarget _ = ⊤
+
+-- a statement that begins has no reply yet
+abbrev pub reply_to_start : Started → Option Reply
+reply_to_start (started.Ticket ticket) = None
+reply_to_start (started.Refused refusal) = Some (reply.Refused refusal)
+reply_to_start started.Memory = Some reply.Memory
+
+abbrev pub MadeStart : Chronicle → Chronicle → ℕ → ℕ → Started → Type 0
+MadeStart old new session index begun =
+    (told : Told) × MadeEntry old new (entry_at (store_of old).moment session index (kind.Start told)) (reply_to_start begun)
