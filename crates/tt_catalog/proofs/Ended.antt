@@ -1,23 +1,18 @@
 -- What is kept where an open statement has ended without a change: it pins nothing, and its marks are again those before it.
-use Rattle.std.specs.Prelude.{Bool, List, None, Ok, Option, Result, Some, [], false, filter, fold, if◌then◌else◌, map, nat_lt, not, refl, slice_set, true, unwrap_or, ℕ, ◌++◌, ◌+◌, ◌==◌, ◌∷◌, ◌≡◌, ◌≢◌}
+use Rattle.std.specs.Prelude.{List, None, Ok, Option, Result, Some, [], false, fold, if◌then◌else◌, map, not, refl, slice_set, unwrap_or, ℕ, ◌+◌, ◌==◌, ◌∷◌, ◌≡◌, ◌≢◌}
 use Rattle.std.proofs.Common.{ap, arith, sym, ◌∙◌}
-use Rattle.std.proofs.lemmas.Bool.{false≢true, le-ltb, lt-ltb, ltb-false, ltb-true, ne_eqb}
-use Rattle.std.proofs.lemmas.List.Elements.{filter-append}
 use Rattle.tt_sql.specs.declared.query.Query.{Query}
 use Rattle.tt_sql.specs.declared.statement.Statement.{Statement}
 use Rattle.tt_value.specs.declared.value.Row.{Row}
 use Rattle.tt_marks.specs.Changes.{released}
 use Rattle.tt_marks.specs.Marks.{marks_of}
 use Rattle.tt_marks.specs.declared.mark.Mark.{Mark}
-use Rattle.tt_plain.proofs.Tests.{same_number, same_test}
 use Rattle.tt_plain.specs.Answers.{◌>>=◌}
 use Rattle.tt_plain.specs.asked.Asked.{Asked, request_asked}
 use Rattle.tt_plain.specs.asked.Turns.{asked_with}
 use Rattle.tt_plain.specs.declared.store.Plain.{Plain}
 use Rattle.tt_plain.specs.declared.store.PlainOpen.{PlainOpen}
 use Rattle.tt_plain.specs.declared.store.PlainSession.{PlainSession}
-use Rattle.tt_plain.specs.declared.tally.Tally.{Tally}
-use Rattle.tt_plain.specs.declared.tally.TallyPin.{TallyPin}
 use Rattle.tt_plain.specs.effect.Abandon.{given_up}
 use Rattle.tt_plain.specs.effect.Apply.{applied, changed_point}
 use Rattle.tt_plain.specs.effect.End.{answered}
@@ -39,7 +34,7 @@ use Rattle.tt_state_parts.proofs.Steps.{abandon_starved, abandon_step, end_is, e
 use Rattle.tt_state_parts.proofs.TrueFacts.{adds_no_part}
 use Rattle.tt_state_parts.proofs.Turns.{IsOpen, is_open}
 use Rattle.tt_state_parts.specs.Chronicle.{Chronicle, IsOpenRead, entry_at, rows_of, store_of}
-use Rattle.tt_state_parts.specs.Keeps.{ArePins, StandsFor, mark_of}
+use Rattle.tt_state_parts.specs.Keeps.{StandsFor, mark_of}
 use Rattle.tt_state_parts.specs.Kept.{Kept}
 use Rattle.tt_state_parts.specs.Moves.{with_ended}
 use Rattle.tt_history.specs.declared.history.EntryKind.TheVariants as kind

@@ -1,5 +1,5 @@
 -- The tables that a ticket holds.
-use Rattle.std.specs.Prelude.{None, Some, [], ℕ, ◌∷◌, ◌≡◌}
+use Rattle.std.specs.Prelude.{ℕ}
 use Rattle.std.proofs.Common.{ap, ◌∙◌}
 use Rattle.tt_sql.specs.declared.change.Insert.{Insert}
 use Rattle.tt_sql.specs.declared.query.Query.{Query}
@@ -7,7 +7,7 @@ use Rattle.tt_state_parts.specs.Kept.{Kept}
 use Rattle.tt_state_parts.specs.declared.ticket.Started.{Started}
 use Rattle.tt_state_parts.specs.declared.ticket.Ticket.{Ticket}
 use Rattle.tt_state_parts.specs.declared.ticket.Started.TheVariants as started
-use Rattle.tt_catalog.specs.Starts.{StartsInsert, StartsQuery, held_empty, held_whole}
+use Rattle.tt_catalog.specs.Starts.{StartsInsert, StartsQuery, held_whole}
 use Rattle.tt_catalog.specs.Tickets.{HoldsSource, HoldsTarget}
 
 pub query_source : (old new : Kept) (session index : ℕ) (q : Query) (begun : Started) → StartsQuery old new session index q begun → HoldsSource begun

@@ -1,8 +1,16 @@
+pub mod Changed
+pub mod Cuts
 pub mod Ended
 pub mod Held
 pub mod Holds
+pub mod Inserted
+pub mod Landed
 pub mod Marked
+pub mod MayLand
+pub mod Numbered
 pub mod OneTable
 pub mod Opened
 pub mod Refused
 pub mod Started
+pub mod Tallied
+pub mod Versions

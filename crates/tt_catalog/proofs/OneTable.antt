@@ -1,6 +1,5 @@
 -- Why a query of a whole table, and an INSERT of written rows, is refused: its one table is not live, or its columns and kinds do not fit.
-use Rattle.std.specs.Option.{option_and_then}
-use Rattle.std.specs.Prelude.{Bool, List, None, Ok, Option, Some, [], filter_map, is_none, length, map, option_map, refl, true, ℕ, ℤ, ◌&&◌, ◌++◌, ◌+◌, ◌==◌, ◌∷◌, ◌≡◌}
+use Rattle.std.specs.Prelude.{List, None, Ok, Option, Some, [], filter_map, is_none, length, option_map, refl, true, ℕ, ℤ, ◌&&◌, ◌++◌, ◌+◌, ◌==◌, ◌∷◌, ◌≡◌}
 use Rattle.std.proofs.Common.{ap, arith, sym, ◌∙◌}
 use Rattle.std.proofs.lemmas.Bool.{and_parts}
 use Rattle.tt_value.specs.declared.name.TableName.{TableName}

@@ -1,3 +1,5 @@
+pub mod Changes
 pub mod Ends
+pub mod Landing
 pub mod Starts
 pub mod Tickets
