@@ -1,0 +1,5 @@
+pub mod FittingRows
+pub mod NoneMissing
+pub mod PutIn
+pub mod TupleCells
+pub mod Written
