@@ -1,0 +1,4 @@
+pub mod Lists
+pub mod Merging
+pub mod Operands
+pub mod Walking

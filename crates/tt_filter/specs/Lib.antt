@@ -1,0 +1,4 @@
+pub mod Givens
+pub mod Parts
+pub mod RowTruths
+pub mod Sides

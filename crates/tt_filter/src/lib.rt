@@ -1,0 +1,10 @@
+//! Which rows of a partition a predicate is true on, as bits.
+#![tactic(auto)]
+
+mod conditions;
+mod given;
+mod selecting;
+mod sides;
+mod truths;
+
+pub use selecting::select;
