@@ -1,0 +1,9 @@
+//! The rows of a table's partitions that a predicate takes. Partitions whose zones rule a match out are not read.
+#![tactic(auto)]
+
+mod choosing;
+mod planning;
+mod scanning;
+
+pub use planning::{Plan, plan_of};
+pub use scanning::scan;
