@@ -1,9 +1,12 @@
-pub mod AcceptedInserts
+pub mod Answering
+pub mod Changing
 pub mod Digits
+pub mod Finished
+pub mod Kept
+pub mod Left
 pub mod Requests
 pub mod RunLaws
-pub mod Starts
+pub mod Stores
 pub mod Texts
-pub mod TranscriptLaws
 pub mod TurnsLaws
-pub mod RefusalText
+pub mod Walked

@@ -1,46 +1,30 @@
 -- A statement is known by what it asks for, and which are not carried out.
 use Rattle.std.proofs.Common.{◌≡◌, ℕ, Bool, true, false, Result, Ok, Err, refl, sym}
-use Rattle.std.specs.Prelude.{if◌then◌else◌}
+use Rattle.std.proofs.Common.{◌∙◌, ap}
+use Rattle.std.specs.Prelude.{if◌then◌else◌, is_none, length, not, ◌&&◌, ◌==◌}
+use Rattle.std.proofs.lemmas.Bool.{and_parts}
+use Rattle.tt_value.specs.declared.name.TableName.{TableName}
+use Rattle.tt_sql.specs.declared.query.Selection.{Selection}
+use Rattle.tt_sql.specs.declared.query.Selection.TheVariants as selection
+use Rattle.tt_sql.specs.declared.table.Change.{Change}
+use Rattle.tt_sql.specs.declared.table.Change.TheVariants as changes
+use Rattle.tt_sql.specs.declared.table.TableKind.{TableKind}
+use Rattle.tt_sql.specs.declared.table.TableKind.TheVariants as kinds
+use Rattle.tt_sql.specs.trees.Built as plain
+use Rattle.tt_plain.specs.asked.Reach.{is_star, is_whole_table}
 use Rattle.std.proofs.lemmas.Bool.{false≢true}
-use Rattle.tt_sql.specs.asked.Request.{request_in, request_of}
 use Rattle.tt_sql.specs.declared.change.Dml.{Dml}
 use Rattle.tt_sql.specs.declared.change.Dml.TheVariants as dml
 use Rattle.tt_sql.specs.declared.change.Insert.{Insert}
+use Rattle.tt_sql.specs.declared.change.InsertSource.{InsertSource}
+use Rattle.tt_sql.specs.declared.change.InsertSource.TheVariants as source
 use Rattle.tt_sql.specs.declared.query.Query.{Query}
-use Rattle.tt_sql.specs.declared.request.Definition.{Definition}
-use Rattle.tt_sql.specs.declared.request.Definition.TheVariants.{Alters, Clones, Creates, Drops, Truncates, Undrops}
-use Rattle.tt_sql.specs.declared.request.Request.{Request}
-use Rattle.tt_sql.specs.declared.request.Request.TheVariants.{Begins, Commits, Defines, Reads, RollsBack, Tells, Unreadable, Waits, Writes}
-use Rattle.tt_sql.specs.declared.request.Telling.{Telling}
-use Rattle.tt_sql.specs.declared.request.Telling.TheVariants.{Explains, Gauges, Measures, Shows}
 use Rattle.tt_sql.specs.declared.statement.Statement.{Statement}
 use Rattle.tt_sql.specs.declared.statement.Statement.TheVariants as statement
 use Rattle.tt_sql.specs.declared.table.CreatedTable.{CreatedTable}
-use Rattle.tt_sql.specs.trees.Built.{built}
-use Rattle.tt_plain.specs.Statements.{carried_out}
-use Rattle.tt_run.specs.Requests.{read_asking, statement_defining, statement_telling}
-
-asked_in : (s : Statement) → read_asking (request_in s) ≡ Ok s
-asked_in (statement.Query q) = refl
-asked_in (statement.Dml d) = refl
-asked_in (statement.Create c) = refl
-asked_in (statement.Clone c) = refl
-asked_in (statement.Drop name) = refl
-asked_in (statement.Undrop name) = refl
-asked_in (statement.Truncate name) = refl
-asked_in (statement.Alter a) = refl
-asked_in statement.Begin = refl
-asked_in statement.Commit = refl
-asked_in statement.Rollback = refl
-asked_in (statement.Wait w) = refl
-asked_in (statement.Explain q) = refl
-asked_in (statement.Show history) = refl
-asked_in statement.Metrics = refl
-asked_in (statement.Depth name) = refl
-
-pub asked : (read : Result Statement ℕ) → read_asking (request_of read) ≡ read
-asked (Err place) = refl
-asked (Ok s) = asked_in s
+use Rattle.tt_plain.specs.asked.Turns.{carried_out}
+use Rattle.tt_built.proofs.Reaches.{create_built, insert_built, query_built, statements_built}
+use Rattle.tt_built.specs.Built.{built, has_values, is_built, is_permanent, is_plain_create, is_plain_query}
 
 -- ---- what is carried out, and what is not
 
@@ -52,39 +36,119 @@ left_if : (test : Bool) (s : Statement) → test ≡ false → (if◌then◌else
 left_if false s e = refl
 left_if true s e = absurd (false≢true (sym e))
 
-pub is_carried_out : (s : Statement) → built s ≡ true → carried_out (Ok s) ≡ Ok s
-is_carried_out s e = kept_if (built s) s e
+is_carried_out : (s : Statement) → is_built s ≡ true → carried_out built (Ok s) ≡ Ok s
+is_carried_out s e = kept_if (built.statements s) s (statements_built s ∙ e)
 
-pub is_left : (s : Statement) → built s ≡ false → carried_out (Ok s) ≡ Err 0
-is_left s e = left_if (built s) s e
+is_left : (s : Statement) → is_built s ≡ false → carried_out built (Ok s) ≡ Err 0
+is_left s e = left_if (built.statements s) s (statements_built s ∙ e)
 
-pub changes_nothing : (d : Dml) → ((i : Insert) → d ≡ dml.Insert i → ⊥) → carried_out (Ok (statement.Dml d)) ≡ Err 0
+-- ---- queries, and their tests
+
+flipped : (a b : Bool) → (a ≡ true → b ≡ true) → (b ≡ true → a ≡ true) → a ≡ b
+flipped true b there back = sym (there refl)
+flipped false true there back = back refl
+flipped false false there back = refl
+
+same_star : (s : Selection) → plain.is_star s ≡ is_star s
+same_star (selection.All place) = refl
+same_star (selection.Listed items) = refl
+
+plain_parts : (q : Query) → plain.is_plain_query q ≡ true → is_plain_query q ≡ true
+plain_parts q e =
+    let front = and_parts (plain.is_star q.selection && plain.reads_whole_table q) (plain.ends_behind_rows q) e in
+    let parts = and_parts (plain.is_star q.selection) (plain.reads_whole_table q) front.0 in
+    let filter = and_parts (is_none q.first.clause && length q.joins == 0) (is_none q.filter) parts.1 in
+    let sources = and_parts (is_none q.first.clause) (length q.joins == 0) filter.0 in
+    let behind = and_parts (length q.group == 0 && length q.order == 0) (is_none q.limit) front.1 in
+    let lists = and_parts (length q.group == 0) (length q.order == 0) behind.0 in
+    rw (sym (same_star q.selection), parts.0, filter.1, sources.1, lists.0, lists.1, behind.1, sources.0) refl
+
+plain_back : (q : Query) → is_plain_query q ≡ true → plain.is_plain_query q ≡ true
+plain_back q e =
+    let whole = and_parts (is_whole_table q) (is_none q.first.clause) e in
+    let behind = and_parts (is_star q.selection && is_none q.filter && (length q.joins == 0 && length q.group == 0)) (length q.order == 0 && is_none q.limit) whole.0 in
+    let lists = and_parts (is_star q.selection && is_none q.filter) (length q.joins == 0 && length q.group == 0) behind.0 in
+    let front = and_parts (is_star q.selection) (is_none q.filter) lists.0 in
+    let groups = and_parts (length q.joins == 0) (length q.group == 0) lists.1 in
+    let last = and_parts (length q.order == 0) (is_none q.limit) behind.1 in
+    rw (same_star q.selection, front.0, front.1, groups.0, groups.1, last.0, last.1, whole.1) refl
+
+pub same_query : (q : Query) → plain.is_plain_query q ≡ is_plain_query q
+same_query q = flipped (plain.is_plain_query q) (is_plain_query q) (plain_parts q) (plain_back q)
+
+pub query_runs : (q : Query) → is_plain_query q ≡ true → carried_out built (Ok (statement.Query q)) ≡ Ok (statement.Query q)
+query_runs q e = is_carried_out (statement.Query q) (query_built q ∙ e)
+
+pub query_left : (q : Query) → is_plain_query q ≡ false → carried_out built (Ok (statement.Query q)) ≡ Err 0
+query_left q e = is_left (statement.Query q) (query_built q ∙ e)
+
+-- ---- definitions
+
+same_kind : (k : TableKind) → plain.is_permanent k ≡ is_permanent k
+same_kind kinds.Permanent = refl
+same_kind kinds.Transient = refl
+same_kind kinds.Temporary = refl
+
+last_two : (a b c : Bool) → (a && b && c) ≡ (a && c && b)
+last_two true true true = refl
+last_two true true false = refl
+last_two true false true = refl
+last_two true false false = refl
+last_two false true true = refl
+last_two false true false = refl
+last_two false false true = refl
+last_two false false false = refl
+
+pub same_create : (c : CreatedTable) → plain.is_plain_create c ≡ is_plain_create c
+same_create c =
+    last_two (not c.replaces && plain.is_permanent c.kind) (is_none c.options.cluster_by) (is_none c.options.retention)
+    ∙ ap (λ k. not c.replaces && k && is_none c.options.retention && is_none c.options.cluster_by) (same_kind c.kind)
+
+pub create_runs : (c : CreatedTable) → is_plain_create c ≡ true → carried_out built (Ok (statement.Create c)) ≡ Ok (statement.Create c)
+create_runs c e = is_carried_out (statement.Create c) (create_built c ∙ e)
+
+pub create_left : (c : CreatedTable) → is_plain_create c ≡ false → carried_out built (Ok (statement.Create c)) ≡ Err 0
+create_left c e = is_left (statement.Create c) (create_built c ∙ e)
+
+-- ---- changes
+
+pub insert_runs : (i : Insert) → has_values i.source ≡ true → carried_out built (Ok (statement.Dml (dml.Insert i))) ≡ Ok (statement.Dml (dml.Insert i))
+insert_runs i e = is_carried_out (statement.Dml (dml.Insert i)) (insert_built (dml.Insert i) ∙ e)
+
+pub insert_left : (i : Insert) → has_values i.source ≡ false → carried_out built (Ok (statement.Dml (dml.Insert i))) ≡ Err 0
+insert_left i e = is_left (statement.Dml (dml.Insert i)) (insert_built (dml.Insert i) ∙ e)
+
+pub changes_nothing : (d : Dml) → ((i : Insert) → d ≡ dml.Insert i → ⊥) → carried_out built (Ok (statement.Dml d)) ≡ Err 0
 changes_nothing (dml.Insert i) other = absurd (other i refl)
-changes_nothing (dml.Update u) other = refl
-changes_nothing (dml.Delete d) other = refl
-changes_nothing (dml.Copy c) other = refl
+changes_nothing (dml.Update u) other = is_left (statement.Dml (dml.Update u)) refl
+changes_nothing (dml.Delete d) other = is_left (statement.Dml (dml.Delete d)) refl
+changes_nothing (dml.Copy c) other = is_left (statement.Dml (dml.Copy c)) refl
 
-pub defines_nothing : (d : Definition) → ((c : CreatedTable) → d ≡ Creates c → ⊥) → carried_out (Ok (statement_defining d)) ≡ Err 0
-defines_nothing (Creates c) other = absurd (other c refl)
-defines_nothing (Clones c) other = refl
-defines_nothing (Drops name) other = refl
-defines_nothing (Undrops name) other = refl
-defines_nothing (Truncates name) other = refl
-defines_nothing (Alters name change) other = refl
+-- ---- statements that are not carried out yet
 
-tells_nothing : (t : Telling) → carried_out (Ok (statement_telling t)) ≡ Err 0
-tells_nothing (Explains q) = refl
-tells_nothing (Shows history) = refl
-tells_nothing Measures = refl
-tells_nothing (Gauges name) = refl
+altered : (name : TableName) (change : Change) → is_built (statement.Alter (record { table = name; change = change })) ≡ false
+altered name (changes.RenameTo other) = refl
+altered name (changes.SwapWith other) = refl
+altered name (changes.SetRetention days) = refl
+altered name (changes.ClusterBy key) = refl
+altered name changes.DropClusteringKey = refl
+altered name changes.SuspendRecluster = refl
+altered name changes.ResumeRecluster = refl
 
-pub asks_nothing : (r : Request) → ((place : ℕ) → r ≡ Unreadable place → ⊥) → ((q : Query) → r ≡ Reads q → ⊥) → ((d : Dml) → r ≡ Writes d → ⊥) → ((d : Definition) → r ≡ Defines d → ⊥) → carried_out (read_asking r) ≡ Err 0
-asks_nothing (Unreadable place) u r w d = absurd (u place refl)
-asks_nothing (Reads q) u r w d = absurd (r q refl)
-asks_nothing (Writes change) u r w d = absurd (w change refl)
-asks_nothing (Defines definition) u r w d = absurd (d definition refl)
-asks_nothing (Tells t) u r w d = tells_nothing t
-asks_nothing Begins u r w d = refl
-asks_nothing Commits u r w d = refl
-asks_nothing RollsBack u r w d = refl
-asks_nothing (Waits wait) u r w d = refl
+pub others_left : (s : Statement) → ((q : Query) → s ≡ statement.Query q → ⊥) → ((d : Dml) → s ≡ statement.Dml d → ⊥) → ((c : CreatedTable) → s ≡ statement.Create c → ⊥) → carried_out built (Ok s) ≡ Err 0
+others_left (statement.Query q) query dml create = absurd (query q refl)
+others_left (statement.Dml d) query dml create = absurd (dml d refl)
+others_left (statement.Create c) query dml create = absurd (create c refl)
+others_left (statement.Clone c) query dml create = is_left (statement.Clone c) refl
+others_left (statement.Drop name) query dml create = is_left (statement.Drop name) refl
+others_left (statement.Undrop name) query dml create = is_left (statement.Undrop name) refl
+others_left (statement.Truncate name) query dml create = is_left (statement.Truncate name) refl
+others_left (statement.Alter a) query dml create = is_left (statement.Alter a) (altered a.table a.change)
+others_left statement.Begin query dml create = is_left statement.Begin refl
+others_left statement.Commit query dml create = is_left statement.Commit refl
+others_left statement.Rollback query dml create = is_left statement.Rollback refl
+others_left (statement.Wait w) query dml create = is_left (statement.Wait w) refl
+others_left (statement.Explain q) query dml create = is_left (statement.Explain q) refl
+others_left (statement.Show history) query dml create = is_left (statement.Show history) refl
+others_left statement.Metrics query dml create = is_left statement.Metrics refl
+others_left (statement.Depth name) query dml create = is_left (statement.Depth name) refl

@@ -1,63 +1,105 @@
 -- The beginning and the end of a run, session after session.
-use Rattle.std.proofs.Common.{◌≡◌, ℕ, zero, suc, ◌+◌, ◌<◌, ◌≤◌, true, ◌==◌, List, [], ◌∷◌, map, length, Some, None, refl, sym, ◌∙◌, ap, subst, inl, inr, arith}
-use Rattle.std.specs.Prelude.{slice_get}
+use Rattle.std.specs.List.{enumerate_from, list_all}
+use Rattle.std.specs.Prelude.{Bool, List, None, Option, Some, [], false, is_none, length, map, not, refl, slice_get, true, unwrap_or, ℕ, ◌&&◌, ◌++◌, ◌+◌, ◌<◌, ◌==◌, ◌∷◌, ◌≡◌, ◌≤◌}
+use Rattle.std.proofs.Common.{ap, arith, inl, inr, subst, suc, sym, zero, ◌∙◌}
 use Rattle.std.proofs.lemmas.Bool.{cases_lt}
-use Rattle.std.proofs.lemmas.Option.{none-some, same_Some, slice_get_within}
 use Rattle.std.proofs.lemmas.List.Sums.{sum_by-cons}
-use Rattle.std.proofs.lemmas.Bool.Decides.{nat_tests}
+use Rattle.std.proofs.lemmas.Option.{none-some, same_Some, slice_get_within}
 use Rattle.tt_script.specs.declared.script.Script.{Script}
 use Rattle.tt_script.specs.declared.script.SessionText.{SessionText}
-use Rattle.tt_plain.specs.declared.plain.Plain.{Plain}
-use Rattle.tt_plain.specs.declared.plain.PlainSession.{PlainSession}
-use Rattle.tt_plain.specs.Limits.{statement_count, statements_in}
-use Rattle.tt_plain.specs.Store.{empty_store, new_session}
-use Rattle.tt_plain.specs.Replay.{replay_of, replay_from, all_done, is_done}
-use Rattle.tt_plain.proofs.SerialOrder.{serial_empty}
-use Rattle.tt_plain.specs.Turns.{IsIdle}
-use Rattle.tt_state.specs.Chronicle.{Chronicle}
-use Rattle.tt_run.specs.Turns.{HasReplies, InTurn, KeepsOthers, AreDone, AreNew}
+use Rattle.tt_history.specs.declared.history.Entry.{Entry}
+use Rattle.tt_plain.proofs.Tests.{same_test}
+use Rattle.tt_plain.specs.declared.store.Plain.{Plain}
+use Rattle.tt_plain.specs.declared.store.PlainOpen.{PlainOpen}
+use Rattle.tt_plain.specs.declared.store.PlainSession.{PlainSession}
+use Rattle.tt_plain.specs.history.Complete.{all_finished, is_finished}
+use Rattle.tt_plain.specs.history.Replay.{replay_from, replay_of, store_after}
+use Rattle.tt_plain.specs.stored.Empty.{empty_store}
+use Rattle.tt_plain.specs.stored.Points.{count_in, statement_count}
+use Rattle.tt_plain.specs.stored.Sessions.{new_session, session_at}
+use Rattle.tt_built.specs.Built.{built}
+use Rattle.tt_state_parts.specs.Chronicle.{Chronicle, store_of}
+use Rattle.tt_state_parts.specs.Owed.{statements_in}
+use Rattle.tt_run.specs.Sessions.{AreInOrder, HasFinished, IsIdle}
+use Rattle.tt_run.specs.Turns.{AreDone, AreNew, HasReplies, InTurn, KeepsOthers}
 
 -- ---- the beginning
 
-pub begun : (book : Chronicle) (program : Script) → book.program ≡ program → book.history ≡ [] → book.store ≡ empty_store program → HasReplies book []
+pub begun : (book : Chronicle) → book.history ≡ [] → HasReplies book []
 unfolding replay_of replay_from
-begun book program p h s = record { told = []; run = rw (p, h, s) refl; given = refl }
+begun book none = record { run = (empty_store book.program, []); replayed = ap (λ (h : List Entry). replay_of built book.program h) none; given = refl }
 
 new_at : (all : List SessionText) (session : ℕ) → session < length all → slice_get (map (λ (_ : SessionText). new_session) all) session ≡ Some new_session
-new_at [] session less = absurd (omega arith)
+new_at [] session less = absurd (omega (arith, less))
 new_at (first ∷ all) zero less = refl
-new_at (first ∷ all) (suc session) less = new_at all session (omega arith)
+new_at (first ∷ all) (suc session) less = new_at all session (omega (arith, less))
 
-empty_idle : (program : Script) (session : ℕ) → session < length program.sessions → IsIdle (empty_store program) session 0
+empty_new : (program : Script) → AreNew program (empty_store program) 0
 unfolding empty_store
-empty_idle program session less = new_at program.sessions session less
+empty_new program session from less = record { state = new_session; there = new_at program.sessions session less; counted = refl; running = refl; transaction = refl }
 
-pub all_new : (book : Chronicle) (program : Script) → book.program ≡ program → book.history ≡ [] → book.store ≡ empty_store program → AreNew book 0
-all_new book program p h s =
-    rw (p, h, s) (record {
-      idle = λ session _ less. empty_idle program session less;
-      serial = serial_empty program;
-      none = λ session _. refl;
-    })
+pub all_new : (program : Script) (book : Chronicle) → book.program ≡ program → book.history ≡ [] → AreNew program (store_of book) 0
+unfolding store_after
+all_new program book same none =
+    subst (λ (s : Plain). AreNew program s 0) (ap empty_store (sym same) ∙ ap (λ (h : List Entry). store_after built book.program h) (sym none)) (empty_new program)
 
 pub none_done : (program : Script) (store : Plain) → AreDone program store 0
 none_done program store = λ session lines less at. absurd (omega (arith, less))
 
 -- ---- a session's turn
 
--- behind a session's turn the later ones are new
-pub next_new : (old new : Chronicle) (session : ℕ) → new.program ≡ old.program → AreNew old session → InTurn new session → KeepsOthers old.store new.store session → AreNew new (session + 1)
-next_new old new session same before turn others =
+append_nil : {A : Type 0} (xs : List A) → xs ++ [] ≡ xs
+append_nil [] = refl
+append_nil (x ∷ xs) = ap (λ ys. x ∷ ys) (append_nil xs)
+
+-- so far it has no entry
+pub turn_begins : (program : Script) (book : Chronicle) (session : ℕ) → book.program ≡ program → AreInOrder program session book.history → InTurn book session
+turn_begins program book session same order = record {
+  before = book.history;
+  own = [];
+  parts = sym (append_nil book.history);
+  first = subst (λ (p : Script). AreInOrder p session book.history) (sym same) order;
+  of = tt;
+}
+
+-- its statements are done, and it is finished
+idle_finished : (program : Script) (store : Plain) (session : ℕ) (lines : SessionText) → slice_get program.sessions session ≡ Some lines → IsIdle store session (length lines.statements) → (state : PlainSession) → slice_get store.sessions session ≡ Some state → is_finished program session state ≡ true
+idle_finished program store session lines at idle state there =
+    let same : state ≡ idle.state = same_Some state idle.state (sym there ∙ idle.there) in
+    ap (is_finished program session) same
+    ∙ ap (λ (o : Option PlainOpen). (is_none o && idle.state.done == count_in (slice_get program.sessions session)) && not idle.state.transaction) idle.running
+    ∙ ap (λ b. idle.state.done == count_in (slice_get program.sessions session) && not b) idle.transaction
+    ∙ ap (λ b. b && true) (ap (λ n. n == count_in (slice_get program.sessions session)) idle.counted ∙ ap (λ (o : Option SessionText). length lines.statements == count_in o) at ∙ same_test (length lines.statements))
+
+pub turn_ends : (program : Script) (book : Chronicle) (session : ℕ) (lines : SessionText) → book.program ≡ program → slice_get program.sessions session ≡ Some lines → InTurn book session → IsIdle (store_of book) session (length lines.statements) → AreInOrder program (session + 1) book.history
+turn_ends program book session lines same at turn idle =
+    let finished : is_finished book.program session (session_at (store_of book) session) ≡ true =
+        ap (λ (o : Option PlainSession). is_finished book.program session (unwrap_or o new_session)) idle.there
+        ∙ idle_finished book.program (store_of book) session lines (ap (λ (p : Script). slice_get p.sessions session) same ∙ at) idle idle.state idle.there in
+    let ordered : AreInOrder book.program (suc session) book.history = (turn, finished) in
+    let count : suc session ≡ session + 1 = omega arith in
+    subst (λ n. AreInOrder program n book.history) count (subst (λ (p : Script). AreInOrder p (suc session) book.history) same ordered)
+
+-- the later ones are new
+pub next_new : (program : Script) (old new : Plain) (session : ℕ) → AreNew program old session → KeepsOthers old new session → AreNew program new (session + 1)
+next_new program old new session before others = λ later from known.
+    let idle = before later (omega (arith, from)) known in
     record {
-      idle = λ later from known. others later (λ e. omega (arith, e, from)) ∙ before.idle later (omega (arith, from)) (subst (λ p. later < length p.sessions) same known);
-      serial = turn.serial;
-      none = λ later from. turn.last later (omega (arith, from));
+      state = idle.state;
+      there = others later (λ e. omega (arith, e, from)) ∙ idle.there;
+      counted = idle.counted;
+      running = idle.running;
+      transaction = idle.transaction;
     }
+
+stays_idle : (old new : Plain) (session done : ℕ) → slice_get new.sessions session ≡ slice_get old.sessions session → IsIdle old session done → IsIdle new session done
+stays_idle old new session done same idle =
+    record { state = idle.state; there = same ∙ idle.there; counted = idle.counted; running = idle.running; transaction = idle.transaction }
 
 -- and one more is done
 pub one_more_done : (program : Script) (old new : Plain) (session : ℕ) (lines : SessionText) → slice_get program.sessions session ≡ Some lines → AreDone program old session → KeepsOthers old new session → IsIdle new session (length lines.statements) → AreDone program new (session + 1)
 one_more_done program old new session lines at done others idle = λ other texts less found. elim (cases_lt other session) [
-  | inl before ↦ others other (λ e. omega (arith, e, before)) ∙ done other texts before found
+  | inl before ↦ stays_idle old new other (length texts.statements) (others other (λ e. omega (arith, e, before))) (done other texts before found)
   | inr from ↦
       let same : session ≡ other = omega (arith, less, from) in
       let lines_are : lines ≡ texts = same_Some lines texts (sym at ∙ ap (λ s. slice_get program.sessions s) same ∙ found) in
@@ -78,22 +120,25 @@ few_statements_in program session lines e few = omega (arith, few_in program.ses
 
 -- ---- the end
 
-same_test : (n : ℕ) → (n == n) ≡ true
-same_test n = grind (arith, nat_tests)
+done_from : (program : Script) (number : ℕ) (states : List PlainSession) → ((place : ℕ) (state : PlainSession) → slice_get states place ≡ Some state → is_finished program (number + place) state ≡ true)
+    → list_all (λ found. is_finished program found.0 found.1) (enumerate_from number states) ≡ true
+done_from program number [] done = refl
+done_from program number (state ∷ states) done =
+    let here : is_finished program number state ≡ true = ap (λ n. is_finished program n state) (omega arith) ∙ done 0 state refl in
+    let later : list_all (λ found. is_finished program found.0 found.1) (enumerate_from (number + 1) states) ≡ true =
+        done_from program (number + 1) states (λ place other at. ap (λ n. is_finished program n other) (omega arith) ∙ done (suc place) other at) in
+    rw (here, later) refl
 
-idle_done : (lines : SessionText) (state : PlainSession) → Some state ≡ Some (record { done = length lines.statements; running = None }) → is_done lines state ≡ true
-idle_done lines state e =
-    let same : state ≡ record { done = length lines.statements; running = None } = same_Some state (record { done = length lines.statements; running = None }) e in
-    rw same (same_test (length lines.statements))
+lines_at : (all : List SessionText) (session : ℕ) → session < length all → (lines : SessionText) × (slice_get all session ≡ Some lines)
+lines_at [] session less = absurd (omega (arith, less))
+lines_at (first ∷ all) zero less = (first, refl)
+lines_at (first ∷ all) (suc session) less = lines_at all session (omega (arith, less))
 
-done_from : (all : List SessionText) (states : List PlainSession) → length states ≡ length all → ((session : ℕ) (lines : SessionText) → slice_get all session ≡ Some lines → slice_get states session ≡ Some (record { done = length lines.statements; running = None })) → all_done all states ≡ true
-done_from [] [] same done = refl
-done_from [] (state ∷ states) same done = absurd (omega arith)
-done_from (lines ∷ all) [] same done = absurd (omega arith)
-done_from (lines ∷ all) (state ∷ states) same done =
-    rw (idle_done lines state (done 0 lines refl)) (done_from all states (omega arith) (λ session texts at. done (suc session) texts at))
-
--- sessions that are done are all there is to do
-pub all_are_done : (program : Script) (store : Plain) → length store.sessions ≡ length program.sessions → AreDone program store (length program.sessions) → all_done program.sessions store.sessions ≡ true
-all_are_done program store same done =
-    done_from program.sessions store.sessions same (λ session lines at. done session lines (slice_get_within program.sessions session lines at) at)
+-- sessions that are done have nothing left to do
+pub all_are_finished : (program : Script) (store : Plain) → length store.sessions ≡ length program.sessions → AreDone program store (length program.sessions) → all_finished program store ≡ true
+all_are_finished program store same done =
+    done_from program 0 store.sessions (λ place state at.
+    let known : place < length program.sessions = omega (arith, same, slice_get_within store.sessions place state at) in
+    let lines = lines_at program.sessions place known in
+    ap (λ n. is_finished program n state) (omega arith)
+    ∙ idle_finished program store place lines.0 lines.1 (done place lines.0 known lines.1) state at)

@@ -1,35 +1,29 @@
 -- Entries that a catalog made go on with its replies, and move their own session alone.
-use Rattle.std.proofs.Common.{◌≡◌, ℕ, zero, suc, ◌+◌, ◌-◌, List, [], ◌∷◌, ◌++◌, Option, Some, None, Bool, refl, sym, ◌∙◌, ap, subst}
-use Rattle.std.specs.Prelude.{slice_get, slice_set, Result}
-use Rattle.std.proofs.lemmas.Option.{same_Some}
+use Rattle.std.specs.Prelude.{Bool, List, None, Option, Result, Some, [], false, is_none, option_map, refl, slice_get, true, unwrap_or, ℕ, ◌&&◌, ◌++◌, ◌+◌, ◌-◌, ◌==◌, ◌∷◌, ◌≡◌, ◌≢◌}
+use Rattle.std.proofs.Common.{ap, append_assoc, subst, sym, ◌∙◌}
 use Rattle.tt_script.specs.declared.script.Script.{Script}
-use Rattle.tt_value.specs.declared.value.Row.{Row}
-use Rattle.tt_history.specs.declared.history.Actor.TheVariants.{Session}
+use Rattle.tt_sql.specs.declared.statement.Statement.{Statement}
 use Rattle.tt_history.specs.declared.history.Entry.{Entry}
 use Rattle.tt_history.specs.declared.history.EntryKind.{EntryKind}
 use Rattle.tt_history.specs.declared.reply.Reply.{Reply}
-use Rattle.tt_sql.specs.declared.statement.Statement.{Statement}
-use Rattle.tt_sql.specs.declared.table.CreatedTable.{CreatedTable}
-use Rattle.tt_plain.specs.declared.plain.Plain.{Plain}
-use Rattle.tt_plain.specs.declared.plain.PlainOpen.{PlainOpen}
-use Rattle.tt_plain.specs.Answers.{◌>>=◌}
-use Rattle.tt_plain.proofs.Answers.{bind_some}
-use Rattle.tt_plain.specs.CreateTable.{with_table}
-use Rattle.tt_plain.specs.InsertRows.{with_commit, with_rows}
-use Rattle.tt_plain.proofs.Leads.{leads_at}
-use Rattle.tt_plain.specs.Statements.{carried_at}
-use Rattle.tt_plain.specs.Store.{next_statement, with_ended, with_opened, table_numbered}
-use Rattle.tt_plain.proofs.Turns.{next_from}
-use Rattle.tt_plain.specs.NextEntry.{entry_at}
-use Rattle.tt_plain.specs.Replay.{step_of, replay_of, after, replay_of-snoc}
-use Rattle.tt_plain.proofs.SerialOrder.{serial_goes_on, none_behind_more}
-use Rattle.tt_plain.specs.Transcript.{given_replies, AreReplies}
-use Rattle.tt_plain.specs.Turns.{IsIdle}
-use Rattle.tt_plain.proofs.Idle.{answered_idle}
-use Rattle.tt_plain.specs.Ways.{Way, ends, makes, adds, begins, Goes}
-use Rattle.tt_plain.proofs.Ways.{step_goes}
-use Rattle.tt_state.specs.Chronicle.{Chronicle, MadeEntry}
-use Rattle.tt_run.specs.Turns.{HasReplies, InTurn, KeepsOthers, Moves, GoesOn, IsAnswered}
+use Rattle.tt_plain.proofs.Tests.{same_test}
+use Rattle.tt_plain.specs.Answers.{only_if, ◌>>=◌}
+use Rattle.tt_plain.specs.asked.Turns.{asked_with, is_idle_before, next_asked, statement_read}
+use Rattle.tt_plain.specs.declared.store.Plain.{Plain}
+use Rattle.tt_plain.specs.declared.store.PlainOpen.{PlainOpen}
+use Rattle.tt_plain.specs.declared.store.PlainSession.{PlainSession}
+use Rattle.tt_plain.specs.history.Replay.{replay_of}
+use Rattle.tt_plain.specs.history.Step.{step_of}
+use Rattle.tt_plain.specs.law.Lists.{Every}
+use Rattle.tt_plain.specs.stored.Sessions.{new_session, session_at}
+use Rattle.tt_plain.specs.text.Transcript.{given_replies}
+use Rattle.tt_built.specs.Built.{built}
+use Rattle.tt_state_parts.proofs.Histories.{replay_longer, store_is}
+use Rattle.tt_state_parts.specs.Chronicle.{Chronicle, IsNextRead, MadeEntry, entry_at, store_of}
+use Rattle.tt_history.specs.declared.history.Actor.TheVariants as actor
+use Rattle.tt_run.proofs.Left.{alone_behind, idle_behind, others_behind}
+use Rattle.tt_run.specs.Sessions.{AreInOrder, AreOf, IsIdle, IsSingle}
+use Rattle.tt_run.specs.Turns.{GoesOn, HasReplies, InTurn, IsAlone, IsAnswered, Moves}
 
 given-some : (told : List (Option Reply)) (answer : Reply) → given_replies (told ++ Some answer ∷ []) ≡ given_replies told ++ answer ∷ []
 given-some [] answer = refl
@@ -41,120 +35,90 @@ given-none [] = refl
 given-none (None ∷ told) = given-none told
 given-none (Some r ∷ told) = ap (λ rs. r ∷ rs) (given-none told)
 
--- ---- other sessions
-
-set_elsewhere : {A : Type 0} (xs : List A) (i j : ℕ) (x : A) → (i ≡ j → ⊥) → slice_get (slice_set xs i x) j ≡ slice_get xs j
-set_elsewhere [] i j x apart = refl
-set_elsewhere (y ∷ ys) zero zero x apart = absurd (apart refl)
-set_elsewhere (y ∷ ys) zero (suc j) x apart = refl
-set_elsewhere (y ∷ ys) (suc i) zero x apart = refl
-set_elsewhere (y ∷ ys) (suc i) (suc j) x apart = set_elsewhere ys i j x (λ e. apart (ap suc e))
-
-ended_elsewhere : (program : Script) (store : Plain) (moment session index : ℕ) → KeepsOthers store (with_ended program store moment session index) session
-unfolding with_ended
-ended_elsewhere program store moment session index = λ other apart. set_elsewhere store.sessions session other (record { done = index; running = None }) apart
-
-opened_elsewhere : (program : Script) (store : Plain) (moment session index : ℕ) (seen : PlainOpen) → KeepsOthers store (with_opened program store moment session index seen) session
-unfolding with_opened
-opened_elsewhere program store moment session index seen = λ other apart. set_elsewhere store.sessions session other _ apart
-
-made_sessions : (store : Plain) (moment : ℕ) (create : CreatedTable) → (with_table store moment create).sessions ≡ store.sessions
-unfolding with_table
-made_sessions store moment create = refl
-
-committed_sessions : (store new : Plain) (moment number : ℕ) (rows : List Row) → with_commit store moment number rows ≡ Some new → new.sessions ≡ store.sessions
-unfolding with_commit
-committed_sessions store new moment number rows e =
-    let found = bind_some (table_numbered store.tables number) _ new e in
-    ap (λ (p : Plain). p.sessions) (sym (same_Some (record store { tables = slice_set store.tables (number - 1) (with_rows found.0 moment rows) }) new found.2))
-
-way_elsewhere : (program : Script) (store : Plain) (moment session index : ℕ) (answers : Bool) (new : Plain) (told : Option Reply) → Way program store moment session index answers new told → KeepsOthers store new session
-way_elsewhere program store moment session index answers new told (ends given turn) = ended_elsewhere program store moment session index
-way_elsewhere program store moment session index answers new told (makes create given free turn) = λ other apart.
-    ended_elsewhere program (with_table store moment create) moment session index other apart ∙ ap (λ sessions. slice_get sessions other) (made_sessions store moment create)
-way_elsewhere program store moment session index answers new told (adds committed number rows given commits turn) = λ other apart.
-    ended_elsewhere program committed moment session index other apart ∙ ap (λ sessions. slice_get sessions other) (committed_sessions store committed moment number rows commits)
-way_elsewhere program store moment session index answers new told (begins read seen free e n) = opened_elsewhere program store moment session index seen
-
-same_session : (other session : ℕ) → Session session ≡ Session other → other ≡ session
-same_session other session e = cc
-
-step_elsewhere : (program : Script) (old new : Plain) (session index : ℕ) (k : EntryKind) (told : Option Reply) → step_of program old (entry_at old session index k) ≡ Some (new, told) → KeepsOthers old new session
-step_elsewhere program old new session index k told step =
-    let goes = leads_at (Goes program old (entry_at old session index k)) (step_of program old (entry_at old session index k)) new told (step_goes program old (entry_at old session index k)) step in
-    subst (KeepsOthers old new) (same_session goes.session session goes.actor_is) (way_elsewhere program old (old.moment + 1) goes.session index _ new told goes.way)
-
 -- ---- the order of entries
 
-turn_goes_on : (old new : Chronicle) (entry : Entry) (session : ℕ) → entry.actor ≡ Session session → new.program ≡ old.program → new.history ≡ old.history ++ entry ∷ [] → InTurn old session → InTurn new session
-turn_goes_on old new entry session actor same longer turn =
-    rw (same, longer) (record {
-      known = turn.known;
-      serial = serial_goes_on old.program old.history entry session actor turn.known turn.last turn.serial;
-      last = none_behind_more session old.history entry actor turn.last;
-    })
+all_of : (session : ℕ) (own : List Entry) (entry : Entry) → AreOf session own → entry.actor ≡ actor.Session session → AreOf session (own ++ entry ∷ [])
+all_of session [] entry of is = (is, tt)
+all_of session (first ∷ own) entry of is = (of.0, all_of session own entry of.1 is)
 
-made_moves : (old new : Chronicle) (session index : ℕ) (kind : EntryKind) (told : Option Reply) → MadeEntry old new (entry_at old.store session index kind) told → Moves old new session
-made_moves old new session index kind told made =
-    record {
-      same_program = made.same_program;
-      same_cap = made.same_cap;
-      others = step_elsewhere old.program old.store new.store session index kind told made.step;
-      turn = turn_goes_on old new (entry_at old.store session index kind) session refl made.same_program made.longer;
-    }
+turn_goes_on : (old new : Chronicle) (entry : Entry) (session : ℕ) → entry.actor ≡ actor.Session session → new.program ≡ old.program → new.history ≡ old.history ++ entry ∷ [] → InTurn old session → InTurn new session
+turn_goes_on old new entry session is same longer turn = record {
+  before = turn.before;
+  own = turn.own ++ entry ∷ [];
+  parts = longer ∙ ap (λ (h : List Entry). h ++ entry ∷ []) turn.parts ∙ append_assoc turn.before turn.own (entry ∷ []);
+  first = subst (λ (p : Script). AreInOrder p session turn.before) (sym same) turn.first;
+  of = all_of session turn.own entry turn.of is;
+}
+
+made_moves : (old new : Chronicle) (session index : ℕ) (kind : EntryKind) (told : Option Reply) → IsSingle kind → MadeEntry old new (entry_at (store_of old).moment session index kind) told → Moves old new session
+made_moves old new session index kind told single made = record {
+  same_program = made.same_program;
+  same_cap = made.same_cap;
+  others = λ other ne. others_behind old.program (store_of old) session index ((store_of old).moment + 1) kind (store_of new) told single made.step other ne;
+  turn = turn_goes_on old new (entry_at (store_of old).moment session index kind) session refl made.same_program made.longer;
+}
 
 then_moves : (old middle new : Chronicle) (session : ℕ) → Moves old middle session → Moves middle new session → Moves old new session
-then_moves old middle new session first second =
-    record {
-      same_program = second.same_program ∙ first.same_program;
-      same_cap = second.same_cap ∙ first.same_cap;
-      others = λ other apart. second.others other apart ∙ first.others other apart;
-      turn = λ turn. second.turn (first.turn turn);
-    }
+then_moves old middle new session first second = record {
+  same_program = second.same_program ∙ first.same_program;
+  same_cap = second.same_cap ∙ first.same_cap;
+  others = λ other ne. second.others other ne ∙ first.others other ne;
+  turn = λ turn. second.turn (first.turn turn);
+}
 
 -- ---- replies
 
 -- the run of the catalog after an entry
-made_run : (old new : Chronicle) (entry : Entry) (answer : Option Reply) (told : List (Option Reply)) → MadeEntry old new entry answer → replay_of old.program old.history ≡ Some (old.store, told) → replay_of new.program new.history ≡ Some (new.store, told ++ answer ∷ [])
-made_run old new entry answer told made run =
-    let here : replay_of old.program (old.history ++ entry ∷ []) ≡ Some (new.store, told ++ answer ∷ []) = replay_of-snoc old.program old.history entry ∙ ap (λ r. after old.program r entry) run ∙ ap (λ next. next >>= λ n. Some (n.0, told ++ n.1 ∷ [])) made.step in
-    subst (λ p. replay_of p new.history ≡ Some (new.store, told ++ answer ∷ [])) (sym made.same_program)
-    (subst (λ h. replay_of old.program h ≡ Some (new.store, told ++ answer ∷ [])) (sym made.longer) here)
+made_run : (old new : Chronicle) (entry : Entry) (answer : Option Reply) (replies : List Reply) → MadeEntry old new entry answer → (has : HasReplies old replies)
+    → replay_of built new.program new.history ≡ Some (store_of new, has.run.1 ++ answer ∷ [])
+made_run old new entry answer replies made has =
+    let here : step_of built old.program has.run.0 entry ≡ Some (store_of new, answer) =
+        ap (λ (s : Plain). step_of built old.program s entry) (sym (store_is built old.program old.history has.run has.replayed)) ∙ made.step in
+    ap (λ (p : Script). replay_of built p new.history) made.same_program
+    ∙ ap (λ (h : List Entry). replay_of built old.program h) made.longer
+    ∙ replay_longer built old.program old.history entry has.run (store_of new, answer) has.replayed here
 
-pub made_goes_on : (old new : Chronicle) (session index : ℕ) (kind : EntryKind) → MadeEntry old new (entry_at old.store session index kind) None → GoesOn old new session
-made_goes_on old new session index kind made =
-    record {
-      moves = made_moves old new session index kind None made;
-      keeps = λ replies has. record {
-        told = has.told ++ None ∷ [];
-        run = made_run old new (entry_at old.store session index kind) None has.told made has.run;
-        given = given-none has.told ∙ has.given;
-      };
-    }
+pub made_goes_on : (old new : Chronicle) (session index : ℕ) (kind : EntryKind) → IsSingle kind → MadeEntry old new (entry_at (store_of old).moment session index kind) None → GoesOn old new session
+made_goes_on old new session index kind single made = record {
+  moves = made_moves old new session index kind None single made;
+  keeps = λ replies has. record {
+    run = (store_of new, has.run.1 ++ None ∷ []);
+    replayed = made_run old new (entry_at (store_of old).moment session index kind) None replies made has;
+    given = given-none has.run.1 ∙ has.given;
+  };
+  alone = λ alone. alone_behind old.program (store_of old) session index ((store_of old).moment + 1) kind (store_of new) None single alone made.step;
+}
 
-pub made_answers : (old new : Chronicle) (session index : ℕ) (kind : EntryKind) (answer : Reply) → MadeEntry old new (entry_at old.store session index kind) (Some answer) → IsAnswered old new session index answer
-made_answers old new session index kind answer made =
-    record {
-      moves = made_moves old new session index kind (Some answer) made;
-      adds = λ replies has. record {
-        told = has.told ++ Some answer ∷ [];
-        run = made_run old new (entry_at old.store session index kind) (Some answer) has.told made has.run;
-        given = given-some has.told answer ∙ ap (λ rs. rs ++ answer ∷ []) has.given;
-      };
-      idle = answered_idle old.program old.store new.store session index kind answer made.step;
-    }
+pub made_answers : (old new : Chronicle) (session index : ℕ) (kind : EntryKind) (answer : Reply) → IsSingle kind → MadeEntry old new (entry_at (store_of old).moment session index kind) (Some answer) → IsAnswered old new session index answer
+made_answers old new session index kind answer single made = record {
+  moves = made_moves old new session index kind (Some answer) single made;
+  adds = λ replies has. record {
+    run = (store_of new, has.run.1 ++ Some answer ∷ []);
+    replayed = made_run old new (entry_at (store_of old).moment session index kind) (Some answer) replies made has;
+    given = given-some has.run.1 answer ∙ ap (λ rs. rs ++ answer ∷ []) has.given;
+  };
+  idle = λ alone. idle_behind old.program (store_of old) session index ((store_of old).moment + 1) kind (store_of new) answer single alone made.step;
+}
 
 pub then_answers : (old middle new : Chronicle) (session index : ℕ) (answer : Reply) → GoesOn old middle session → IsAnswered middle new session index answer → IsAnswered old new session index answer
-then_answers old middle new session index answer begun answered =
-    record {
-      moves = then_moves old middle new session begun.moves answered.moves;
-      adds = λ replies has. answered.adds replies (begun.keeps replies has);
-      idle = answered.idle;
-    }
+then_answers old middle new session index answer begun answered = record {
+  moves = then_moves old middle new session begun.moves answered.moves;
+  adds = λ replies has. answered.adds replies (begun.keeps replies has);
+  idle = λ alone. answered.idle (begun.alone alone);
+}
+
+-- ---- a session between its statements
+
+pub idle_alone : (book : Chronicle) (session done : ℕ) → IsIdle (store_of book) session done → IsAlone book session
+idle_alone book session done idle = ap (λ (o : Option PlainSession). (unwrap_or o new_session).transaction) idle.there ∙ idle.transaction
 
 -- an idle session's next statement
-pub idle_next : (program : Script) (store : Plain) (session done : ℕ) (read : Result Statement ℕ) → IsIdle store session done → carried_at program session (done + 1) ≡ Some read → next_statement program store session (done + 1) ≡ Some read
-idle_next program store session done read idle said = next_from program store session (done + 1) read (record { done = done; running = None }) idle refl refl said
-
-pub replies_of_run : (book : Chronicle) (replies : List Reply) → HasReplies book replies → AreReplies book.program book.history replies
-replies_of_run book replies has = record { run = (book.store, has.told); replayed = has.run; given = has.given }
+pub idle_next : (book : Chronicle) (session done : ℕ) (read : Result Statement ℕ) → IsIdle (store_of book) session done → statement_read built book.program session (done + 1) ≡ Some read → IsNextRead book session (done + 1) read
+unfolding next_asked
+idle_next book session done read idle said =
+    let store = store_of book in
+    let test : is_idle_before (done + 1) idle.state ≡ true =
+        ap (λ (o : Option PlainOpen). is_none o && done + 1 == idle.state.done + 1) idle.running ∙ ap (λ n. done + 1 == n + 1) idle.counted ∙ same_test (done + 1) in
+    ap (λ (o : Option PlainSession). o >>= λ state. only_if (is_idle_before (done + 1) state) state >>= λ idle. statement_read built book.program session (done + 1) >>= λ r. Some (asked_with book.program store session (done + 1) r)) idle.there
+    ∙ ap (λ b. only_if b idle.state >>= λ idle. statement_read built book.program session (done + 1) >>= λ r. Some (asked_with book.program store session (done + 1) r)) test
+    ∙ ap (λ (o : Option (Result Statement ℕ)). o >>= λ r. Some (asked_with book.program store session (done + 1) r)) said

@@ -1,8 +1,8 @@
-pub mod AnsweredLines
-pub mod Requests
-pub mod InsertedRows
-pub mod Turns
-pub mod Outcomes
-pub mod Top
 pub mod Failures
+pub mod Outcomes
+pub mod Requests
+pub mod Sessions
+pub mod Started
+pub mod Top
+pub mod Turns
 pub mod Words

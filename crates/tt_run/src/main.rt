@@ -2,7 +2,6 @@
 #![tactic(auto)]
 
 mod failure;
-mod insert;
 mod parsing;
 mod run;
 mod session;
@@ -10,7 +9,6 @@ mod settle;
 #[cfg(test)]
 mod tests;
 mod top;
-mod transcript;
 mod words;
 
 use failure::failure_of;

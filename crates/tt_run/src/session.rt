@@ -1,69 +1,86 @@
 //! A session's statements, one event after another.
 
-ghost use Rattle.std.specs.Prelude.{◌≡◌, ◌<◌, IfOk, Ok, Err, vec_len};
+ghost use Rattle.std.specs.Prelude.{◌≡◌, [], ◌∷◌, Err, IfOk, None, Ok, Some, true};
 ghost use Rattle.tt_sql.specs.asked.Request.{as_read};
-ghost use Rattle.tt_sql.specs.declared.statement.Statement.TheVariants as statement;
-ghost use Rattle.tt_plain.specs.SelectRows.{rows_read};
-ghost use Rattle.tt_plain.specs.Statements.{insertion, InsertsTuples};
-ghost use Rattle.tt_state.specs.MadeEntries.{IsNextRead};
-ghost use Rattle.tt_state.specs.Tickets.{IsTicketOf, IsQueryTicket, opened_by};
-ghost use Rattle.tt_run.specs.InsertedRows.{IsFor, AreAdded};
-ghost use Rattle.tt_run.specs.Requests.{read_asking, statement_defining, IsNextAsked};
-ghost use Rattle.tt_run.specs.Turns.{IsReplayed, IsAnswered};
+ghost use Rattle.tt_sql.specs.declared.statement.Statement.TheVariants as tree;
+ghost use Rattle.tt_plain.specs.Statements.{InsertsTuples, insertion};
+ghost use Rattle.tt_plain.specs.TypingRefusal.{typing_refusal};
+ghost use Rattle.tt_built.specs.Built.{is_plain_query};
+ghost use Rattle.tt_state_parts.specs.Chronicle.{IsNextRead};
+ghost use Rattle.tt_catalog.specs.Changes.{IsBuiltFor};
+ghost use Rattle.tt_catalog.specs.Tickets.{IsTicketOf};
+ghost use Rattle.tt_query.specs.Answer.{answer_held};
+ghost use Rattle.tt_run.specs.Outcomes.{Stands};
+ghost use Rattle.tt_run.specs.Requests.{IsNextAsked};
+ghost use Rattle.tt_run.specs.Started.{IsReading, IsWriting};
+ghost use Rattle.tt_run.specs.Turns.{IsAnswered};
 
-use crate::insert::stored_rows;
 use std::alloc::{AllocError, Global};
-use tt_history::{Reply, SharedRows, Told};
+use tt_agg::AggregateError;
+use tt_catalog::{abandon, begin_insert, begin_query, end_change, end_read};
+use tt_catalog_ddl::define;
+use tt_change::insert_written;
+use tt_history::{Reply, SharedRows};
 use tt_sql::{
-    CreatedTable, Definition, Dml, Insert, InsertSource, Query, Request, Statement, Syntax, Tuple,
-    plain_create, plain_query,
+    CreatedTable, Dml, Insert, InsertSource, Query, Statement, Syntax, Tuple, plain_create,
+    plain_query,
 };
-use tt_state::calls::{abandon, begin_insert, begin_query, define, end_change, end_read, refuse};
-use tt_state::{Built, Catalog, Started, Ticket};
+use tt_state_parts::{Built, Catalog, Started, Ticket};
 
-// The rows that a query's ticket holds, shared and not copied.
-fn answer(ticket: &Ticket) -> Result<SharedRows, AllocError>
-    requires { 0 < vec_len ticket.now.sources }
-    ensures { IfOk result (λ rows. rows ≡ rows_read (opened_by ticket.now).sources) }
+// What holds of each catalog: it stands for its program and its history.
+fn stands(cat: &Catalog)
+    ensures { Stands cat.now }
 {
-    let Some((seen, _others)) = ticket.sources.split_first() else {
-        unreachable!()
-    };
-    seen.rows.in_order()
+    let _state = &cat.state;
 }
 
-fn answer_query(cat: &mut Catalog, ticket: Ticket) -> Reply
-    requires ticket { IsQueryTicket cat.old ticket }
-    requires sources { 0 < vec_len ticket.sources }
+// ---- queries
+
+// The answer of a query of a whole table over the rows that its ticket holds.
+fn answer(alloc: Global, ticket: &Ticket, query: &Query) -> Result<SharedRows, AllocError>
+    requires { IsReading ticket.now query.now }
+    ensures { IfOk result (λ rows. answer_held ticket.now.sources query.now ≡ Some rows) }
+{
+    match tt_query::answer(alloc, ticket, query) {
+        Ok(rows) => SharedRows::new(alloc, rows),
+        Err(AggregateError::Memory) => Err(AllocError),
+        Err(AggregateError::OutOfRange) => unreachable!(),
+    }
+}
+
+fn answer_query(cat: &mut Catalog, alloc: Global, ticket: Ticket, query: &Query) -> Reply
+    requires ticket { IsTicketOf cat.old ticket (tree.Query query.now) }
+    requires reads { IsReading ticket query.now }
     ensures { IsAnswered cat.old cat.new ticket.session ticket.index result }
 {
-    let Ok(rows) = answer(&ticket) else {
-        abandon(cat, ticket, Told::Memory);
+    let Ok(rows) = answer(alloc, &ticket, query) else {
+        abandon(cat, ticket);
         return Reply::Memory;
     };
     end_read(cat, ticket);
     Reply::Rows(rows)
 }
 
+// ---- changes
+
 // What an INSERT of these written rows adds to the table of its ticket.
-fn added(
+fn build(
+    cat: &Catalog,
     alloc: Global,
     ticket: &Ticket,
     insert: &Insert,
     tuples: &[Tuple],
 ) -> Result<Built, AllocError>
-    requires target { IsFor ticket.now insert.now }
+    requires ticket { IsTicketOf cat.now ticket.now (insertion insert.now) }
+    requires writes { IsWriting ticket.now insert.now }
     requires tuples { InsertsTuples insert.now tuples.now }
-    ensures { IfOk result (λ built. AreAdded ticket.now insert.now built) }
+    ensures { IfOk result (IsBuiltFor cat.now ticket.now) }
 {
+    stands(cat);
     let Some(seen) = &ticket.target else {
         unreachable!()
     };
-    let rows = stored_rows(alloc, &seen.schema, insert, tuples)?;
-    Ok(Built {
-        count: rows.len() as u64,
-        rows,
-    })
+    insert_written(alloc, &seen.schema, insert, tuples, cat.cap())
 }
 
 fn change_rows(
@@ -74,33 +91,41 @@ fn change_rows(
     tuples: &[Tuple],
 ) -> Reply
     requires ticket { IsTicketOf cat.old ticket (insertion insert.now) }
-    requires target { IsFor ticket insert.now }
+    requires writes { IsWriting ticket insert.now }
     requires tuples { InsertsTuples insert.now tuples.now }
     ensures { IsAnswered cat.old cat.new ticket.session ticket.index result }
 {
-    let Ok(built) = added(alloc, &ticket, insert, tuples) else {
-        abandon(cat, ticket, Told::Memory);
+    let Ok(built) = build(cat, alloc, &ticket, insert, tuples) else {
+        abandon(cat, ticket);
         return Reply::Memory;
     };
     match end_change(cat, ticket, built) {
         Ok(reply) => reply,
         Err(ticket) => {
-            abandon(cat, ticket, Told::Memory);
+            abandon(cat, ticket);
             Reply::Memory
         }
     }
 }
+
+// ---- statements by what they ask for
 
 // A text that is no statement, or one that is not carried out yet.
 fn refuse_text(cat: &mut Catalog, session: u32, index: u32, place: u32) -> Reply
     requires { IsNextRead cat.old session index (Err place) }
     ensures { IsAnswered cat.old cat.new session index result }
 {
-    Reply::Refused(refuse(cat, session, index, place))
+    Reply::Refused(tt_catalog::refuse_text(cat, session, index, place))
 }
 
-fn run_query(cat: &mut Catalog, session: u32, index: u32, query: &Query) -> Reply
-    requires { IsNextAsked cat.old session index (Ok (statement.Query query.now)) }
+fn run_query(
+    cat: &mut Catalog,
+    alloc: Global,
+    session: u32,
+    index: u32,
+    query: &Query,
+) -> Reply
+    requires { IsNextAsked cat.old session index (Ok (tree.Query query.now)) }
     ensures { IsAnswered cat.old cat.new session index result }
 {
     if !plain_query(query) {
@@ -109,7 +134,7 @@ fn run_query(cat: &mut Catalog, session: u32, index: u32, query: &Query) -> Repl
     match begin_query(cat, session, index, query) {
         Started::Refused(refusal) => Reply::Refused(refusal),
         Started::Memory => Reply::Memory,
-        Started::Ticket(ticket) => answer_query(cat, ticket),
+        Started::Ticket(ticket) => answer_query(cat, alloc, ticket, query),
     }
 }
 
@@ -123,7 +148,6 @@ fn run_values(
 ) -> Reply
     requires next { IsNextRead cat.old session index (Ok (insertion insert.now)) }
     requires tuples { InsertsTuples insert.now tuples.now }
-    requires replayed { IsReplayed cat.old }
     ensures { IsAnswered cat.old cat.new session index result }
 {
     match begin_insert(cat, session, index, insert, tuples) {
@@ -134,8 +158,7 @@ fn run_values(
 }
 
 fn run_insert(cat: &mut Catalog, alloc: Global, session: u32, index: u32, insert: &Insert) -> Reply
-    requires next { IsNextAsked cat.old session index (Ok (insertion insert.now)) }
-    requires replayed { IsReplayed cat.old }
+    requires { IsNextAsked cat.old session index (Ok (insertion insert.now)) }
     ensures { IsAnswered cat.old cat.new session index result }
 {
     match &insert.source {
@@ -147,8 +170,7 @@ fn run_insert(cat: &mut Catalog, alloc: Global, session: u32, index: u32, insert
 }
 
 fn run_change(cat: &mut Catalog, alloc: Global, session: u32, index: u32, change: &Dml) -> Reply
-    requires next { IsNextAsked cat.old session index (Ok (statement.Dml change.now)) }
-    requires replayed { IsReplayed cat.old }
+    requires { IsNextAsked cat.old session index (Ok (tree.Dml change.now)) }
     ensures { IsAnswered cat.old cat.new session index result }
 {
     match change {
@@ -157,42 +179,38 @@ fn run_change(cat: &mut Catalog, alloc: Global, session: u32, index: u32, change
     }
 }
 
-fn run_create(cat: &mut Catalog, session: u32, index: u32, create: &CreatedTable) -> Reply
-    requires { IsNextAsked cat.old session index (Ok (statement.Create create.now)) }
+// A CREATE TABLE, as the statement that it is.
+fn run_create(
+    cat: &mut Catalog,
+    session: u32,
+    index: u32,
+    create: &CreatedTable,
+    statement: &Statement,
+) -> Reply
+    requires next { IsNextAsked cat.old session index (Ok statement.now) }
+    requires create { statement.now ≡ tree.Create create.now }
     ensures { IsAnswered cat.old cat.new session index result }
 {
     if !plain_create(create) {
         return refuse_text(cat, session, index, 0);
     }
-    define(cat, session, index, create)
+    define(cat, session, index, statement)
 }
 
-fn run_definition(cat: &mut Catalog, session: u32, index: u32, definition: &Definition) -> Reply
-    requires { IsNextAsked cat.old session index (Ok (statement_defining definition.now)) }
-    ensures { IsAnswered cat.old cat.new session index result }
-{
-    match definition {
-        Definition::Creates(create) => run_create(cat, session, index, create),
-        _ => refuse_text(cat, session, index, 0),
-    }
-}
-
-fn run_request(
+fn run_parsed(
     cat: &mut Catalog,
     alloc: Global,
     session: u32,
     index: u32,
-    request: &Request,
+    statement: &Statement,
 ) -> Reply
-    requires next { IsNextAsked cat.old session index (read_asking request.now) }
-    requires replayed { IsReplayed cat.old }
+    requires { IsNextAsked cat.old session index (Ok statement.now) }
     ensures { IsAnswered cat.old cat.new session index result }
 {
-    match request {
-        Request::Unreadable(place) => refuse_text(cat, session, index, *place),
-        Request::Reads(query) => run_query(cat, session, index, query),
-        Request::Writes(change) => run_change(cat, alloc, session, index, change),
-        Request::Defines(definition) => run_definition(cat, session, index, definition),
+    match statement {
+        Statement::Query(query) => run_query(cat, alloc, session, index, query),
+        Statement::Dml(change) => run_change(cat, alloc, session, index, change),
+        Statement::Create(create) => run_create(cat, session, index, create, statement),
         _ => refuse_text(cat, session, index, 0),
     }
 }
@@ -204,12 +222,13 @@ pub fn run_statement(
     alloc: Global,
     session: u32,
     index: u32,
-    read: Result<Statement, Syntax>,
+    read: &Result<Statement, Syntax>,
 ) -> Reply
-    requires next { IsNextAsked cat.old session index (as_read read) }
-    requires replayed { IsReplayed cat.old }
+    requires { IsNextAsked cat.old session index (as_read read.now) }
     ensures { IsAnswered cat.old cat.new session index result }
 {
-    let request = Request::of(read);
-    run_request(cat, alloc, session, index, &request)
+    match read {
+        Ok(statement) => run_parsed(cat, alloc, session, index, statement),
+        Err(syntax) => refuse_text(cat, session, index, syntax.place),
+    }
 }

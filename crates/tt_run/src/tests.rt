@@ -15,7 +15,7 @@ const FIRST: &[u8] =
     b"%session a\nCREATE TABLE t (x INT);\nINSERT INTO t VALUES (2),(1),(2);\nSELECT * FROM t;\n";
 
 const FIRST_TRANSCRIPT: &[u8] =
-    b"@1 a 1 define\n= ok\n@2 a 2 start\n@3 a 2 end\n= 3 inserted\n@4 a 3 start\n@5 a 3 end\n: 1\n: 2\n: 2\n= 3 rows\n%end 5\n";
+    b"@1 a 1 define\n= ok\n@2 a 2 start\n@3 a 2 end +1:3:31\n= 3 inserted\n@4 a 3 start\n@5 a 3 end\n: 1\n: 2\n: 2\n= 3 rows\n%end 5\n";
 
 // The status for `replay` over a source and a sink, and whether there is a store.
 fn called<K: Sink>(
@@ -86,7 +86,7 @@ fn worked_scripts_have_their_transcripts(rt: HostRuntime) -> Result<(), Fail> {
         (
             "names fold to upper case, and the extreme numbers are read",
             b"%session s1\ncreate table T(a int);insert INTO t values(9223372036854775807),(- 9223372036854775808);select*from T",
-            b"@1 s1 1 define\n= ok\n@2 s1 2 start\n@3 s1 2 end\n= 2 inserted\n@4 s1 3 start\n@5 s1 3 end\n: -9223372036854775808\n: 9223372036854775807\n= 2 rows\n%end 5\n",
+            b"@1 s1 1 define\n= ok\n@2 s1 2 start\n@3 s1 2 end +1:2:37\n= 2 inserted\n@4 s1 3 start\n@5 s1 3 end\n: -9223372036854775808\n: 9223372036854775807\n= 2 rows\n%end 5\n",
         ),
         (
             "unknown tables, taken names and wrong counts are refused, the least number first",
@@ -110,12 +110,12 @@ fn scripts_are_cut_and_begun_as_they_say(rt: HostRuntime) -> Result<(), Fail> {
         (
             "a semicolon in a text does not cut",
             b"%session a\nCREATE TABLE t (s VARCHAR);INSERT INTO t VALUES ('a;b');SELECT * FROM t",
-            b"@1 a 1 define\n= ok\n@2 a 2 start\n@3 a 2 end\n= 1 inserted\n@4 a 3 start\n@5 a 3 end\n: 'a;b'\n= 1 rows\n%end 5\n",
+            b"@1 a 1 define\n= ok\n@2 a 2 start\n@3 a 2 end +1:1:26\n= 1 inserted\n@4 a 3 start\n@5 a 3 end\n: 'a;b'\n= 1 rows\n%end 5\n",
         ),
         (
             "comments hide semicolons",
             b"%session a\nCREATE TABLE t (x INT); -- one; two\nINSERT INTO t VALUES (1) /* ; */ ; SELECT * FROM t",
-            b"@1 a 1 define\n= ok\n@2 a 2 start\n@3 a 2 end\n= 1 inserted\n@4 a 3 start\n@5 a 3 end\n: 1\n= 1 rows\n%end 5\n",
+            b"@1 a 1 define\n= ok\n@2 a 2 start\n@3 a 2 end +1:1:29\n= 1 inserted\n@4 a 3 start\n@5 a 3 end\n: 1\n= 1 rows\n%end 5\n",
         ),
         (
             "the least start",
@@ -169,12 +169,12 @@ fn values_are_stored_by_their_columns(rt: HostRuntime) -> Result<(), Fail> {
         (
             "dates, texts, lists of columns and NULL",
             b"%session a\nCREATE TABLE t (x INT, d DATE, s VARCHAR);INSERT INTO t VALUES (1,'2024-02-29','it''s'),(NULL,DATE '0001-01-01','');INSERT INTO t (s, x) VALUES ('b', -2);SELECT * FROM t",
-            b"@1 a 1 define\n= ok\n@2 a 2 start\n@3 a 2 end\n= 2 inserted\n@4 a 3 start\n@5 a 3 end\n= 1 inserted\n@6 a 4 start\n@7 a 4 end\n: -2,NULL,'b'\n: 1,2024-02-29,'it''s'\n: NULL,0001-01-01,''\n= 3 rows\n%end 7\n",
+            b"@1 a 1 define\n= ok\n@2 a 2 start\n@3 a 2 end +1:2:68\n= 2 inserted\n@4 a 3 start\n@5 a 3 end +2:1:55\n= 1 inserted\n@6 a 4 start\n@7 a 4 end\n: -2,NULL,'b'\n: 1,2024-02-29,'it''s'\n: NULL,0001-01-01,''\n= 3 rows\n%end 7\n",
         ),
         (
             "a text that is a date is a text in a column of texts",
             b"%session a\nCREATE TABLE t (s TEXT NOT NULL, d DATE);INSERT INTO t (d, S) VALUES ('9999-12-31', '2024-02-29');SELECT * FROM t",
-            b"@1 a 1 define\n= ok\n@2 a 2 start\n@3 a 2 end\n= 1 inserted\n@4 a 3 start\n@5 a 3 end\n: '2024-02-29',9999-12-31\n= 1 rows\n%end 5\n",
+            b"@1 a 1 define\n= ok\n@2 a 2 start\n@3 a 2 end +1:1:48\n= 1 inserted\n@4 a 3 start\n@5 a 3 end\n: '2024-02-29',9999-12-31\n= 1 rows\n%end 5\n",
         ),
     ];
     Ok(have_transcripts(&rt, rt.alloc(), &rows)?)
@@ -330,6 +330,97 @@ fn words_ask_for_the_rows_of_a_partition(rt: HostRuntime) -> Result<(), Fail> {
             outcome.store.is_some_and(|store| store.cap() == rows),
             "{rows}"
         );
+    }
+    Ok(())
+}
+
+// An INSERT's entry for these words.
+fn has_parts(
+    rt: &impl Abort,
+    alloc: Global,
+    line: &[&str],
+    statement: &str,
+    parts: &str,
+    count: u32,
+) -> Result<(), AllocError> {
+    let script = format!(in alloc; "%session a\nCREATE TABLE t (x INT, s VARCHAR);{statement}")?;
+    let transcript = format!(in alloc;
+        "@1 a 1 define\n= ok\n@2 a 2 start\n@3 a 2 end{parts}\n= {count} inserted\n%end 3\n"
+    )?;
+    let words = words_of(alloc, line)?;
+    let bytes = Vec::from_slice(alloc, script.as_bytes())?;
+    let mut source = MemorySource::new(bytes, Vec::new(alloc));
+    let mut sink = MemorySink::new(alloc, Vec::new(alloc));
+    let outcome = top_alone(alloc, words.as_slice(), &mut source, &mut sink);
+    assert!(rt; outcome.status == Status::Ok, "{statement}");
+    assert!(rt; sink.bytes() == transcript.as_bytes(), "{statement}");
+    Ok(())
+}
+
+// Each row of a table has a number, and a text of one byte: a part of one row takes 43 bytes, and one of two
+// rows with other numbers and texts takes 48.
+#[test]
+fn an_insert_is_cut_at_the_length_that_the_words_ask_for(rt: HostRuntime) -> Result<(), Fail> {
+    let five = "INSERT INTO t VALUES (1,'a'),(2,'b'),(3,'c'),(4,'d'),(5,'e')";
+    let same = "INSERT INTO t VALUES (7,'a'),(7,'a')";
+    let lines: [(&[&str], &str, &str, u32); 4] = [
+        (
+            &["replay", "--partition-rows=2"],
+            five,
+            " +1:2:48 +2:2:48 +3:1:43",
+            5,
+        ),
+        (
+            &["replay", "--partition-rows", "1"],
+            same,
+            " +1:1:43 +2:1:43",
+            2,
+        ),
+        (
+            &["replay", "--partition-rows=00001"],
+            same,
+            " +1:1:43 +2:1:43",
+            2,
+        ),
+        (&["replay", "--partition-rows=65536"], same, " +1:2:47", 2),
+    ];
+    for (line, statement, parts, count) in lines {
+        has_parts(&rt, rt.alloc(), line, statement, parts, count)?;
+    }
+    Ok(())
+}
+
+// The image of the first part that a script's run leaves.
+fn first_image(alloc: Global, script: &[u8]) -> Result<Option<Vec<u8>>, AllocError> {
+    let mut source = MemorySource::new(Vec::from_slice(alloc, script)?, Vec::new(alloc));
+    let mut sink = MemorySink::new(alloc, Vec::new(alloc));
+    let words = words_of(alloc, &["replay"])?;
+    let outcome = top_alone(alloc, words.as_slice(), &mut source, &mut sink);
+    let Some(store) = &outcome.store else {
+        return Ok(None);
+    };
+    let Some(stored) = store.stored().first() else {
+        return Ok(None);
+    };
+    let image = stored.part.partition().image();
+    Ok(Some(Vec::from_slice(alloc, image)?))
+}
+
+#[test]
+fn what_is_stored_are_images(rt: HostRuntime) -> Result<(), Fail> {
+    let rows: [(&[u8], &[u8]); 2] = [
+        (
+            FIRST,
+            b"TTP1\x03\0\0\0\x01\0\x01\x01\0\x0a\0\0\0\0\0\0\0\x01\0\0\0\0\0\0\0\x01\x05",
+        ),
+        (
+            b"%session a\nCREATE TABLE t (s VARCHAR);INSERT INTO t VALUES ('a'),(NULL)",
+            b"TTP1\x02\0\0\0\x01\0\x03\0\x01\x03\0\0\0\0\0\0\0\x02\x01\0a",
+        ),
+    ];
+    for (script, image) in rows {
+        let stored = first_image(rt.alloc(), script)?;
+        assert!(rt; stored.is_some_and(|stored| stored.as_slice() == image));
     }
     Ok(())
 }

@@ -1,14 +1,11 @@
 //! The top call: from the words and the bytes that come in to the bytes that go out.
 
-ghost use Rattle.std.specs.Prelude.{◌≡◌, ◌<◌, ◌≤◌, ◌+◌, ◌-◌, ◌^◌, ◌↔◌, ℕ, Ok, Err, Some, take, length, false, IfOk, IfErr, OnOk, IfSome, OnSome, IfNone, IsSome, IsErrOf};
+ghost use Rattle.std.specs.Prelude.{◌≡◌, [], ◌<◌, ◌≤◌, ◌+◌, ◌-◌, ◌^◌, ◌↔◌, ℕ, Ok, Err, Some, take, length, false, IfOk, IfErr, OnOk, IfSome, OnSome, IfNone, IsSome, IsErrOf};
 ghost use Rattle.std.specs.Io.KnownBytes.{Appends, IsAtEnd, Keeps};
 ghost use Rattle.tt_edge.specs.Outside.{RoseBy, RoseIn};
 ghost use Rattle.tt_script.specs.Answers.{Answers};
 ghost use Rattle.tt_script.specs.Script.{answer_of};
-ghost use Rattle.tt_plain.specs.Replay.{IsLegal, IsComplete};
-ghost use Rattle.tt_plain.specs.SerialOrder.{IsSerialOrder};
-ghost use Rattle.tt_plain.specs.Transcript.{transcript_of};
-ghost use Rattle.tt_run.specs.Outcomes.{IsFinished, IsTranscript, InOrder, Stands};
+ghost use Rattle.tt_run.specs.Outcomes.{FormsBags, HasCompleteHistory, HasLegalHistory, IsFinished, IsInOrder, IsTranscript, KeepsRows, Stands, StoresTrueParts, TellsTrueFacts, text_of};
 ghost use Rattle.tt_run.specs.Top.{number_of, input_status, rows_wanted, are_right, status_for, IsRightInput, OnBadInput, GaveTooMuch, GaveText, HasGivenText, GaveWhole, IsDueToWhole, LosesWhatItGave, IsDue, IsDueOrMemory, IsScriptOf, IsFaultOf, HasStoreWhereWritten, IfBadInput, IsEarly, IsLate};
 
 use crate::run::{Finished, run_program};
@@ -16,7 +13,7 @@ use crate::words::partition_rows;
 use std::alloc::Global;
 use tt_edge::{Sink, Source, Unread, Unwritten, read_all, write_all};
 use tt_script::{BadInput, Program, ReadError, read};
-use tt_state::Catalog;
+use tt_state_parts::Catalog;
 
 /// The most bytes of an input.
 const LONGEST_INPUT: u32 = 67_108_864;
@@ -62,6 +59,7 @@ fn read_script(alloc: Global, bytes: Vec<u8>) -> Result<Program, ReadError>
     requires { length bytes.items < 2 ^ 32 }
     ensures read { Answers (λ program. program) result (answer_of bytes.items) }
     ensures text { IfOk result (λ program. program.text ≡ bytes.items) }
+    ensures turns { IfOk result (λ program. program.turns ≡ []) }
 {
     read(alloc, bytes)
 }
@@ -70,6 +68,7 @@ fn read_script(alloc: Global, bytes: Vec<u8>) -> Result<Program, ReadError>
 fn read_program<S: Source>(alloc: Global, source: &mut S) -> Result<Program, Status>
     ensures read { IfOk result (IsScriptOf (S.left source.old)) }
     ensures spelled { IfOk result (λ program. answer_of program.text ≡ Ok program) }
+    ensures turns { IfOk result (λ program. program.turns ≡ []) }
     ensures counted { IfOk result (λ program. RoseBy S.given source.old source.new (length program.text)) }
     ensures short { IfOk result (λ program. length program.text < 2 ^ 32) }
     ensures given { IfOk result (λ program. GaveText S.left S.given source.old source.new program.text) }
@@ -145,20 +144,24 @@ pub fn top_alone<S: Source, K: Sink>(
     sink: &mut K,
 ) -> Outcome
     // The returned store's history is legal and complete for the program that it keeps, and it stands for it.
-    ensures legal { IfSome result.store (λ store. IsLegal store.program store.history) }
-    ensures complete { IfSome result.store (λ store. IsComplete store.program store.history) }
-    ensures serial_order { IfSome result.store (λ store. IsSerialOrder store.program store.history) }
+    ensures legal { IfSome result.store HasLegalHistory }
+    ensures complete { IfSome result.store HasCompleteHistory }
+    ensures serial_order { IfSome result.store IsInOrder }
     ensures stands { IfSome result.store Stands }
+    ensures true_facts { IfSome result.store TellsTrueFacts }
+    ensures true_parts { IfSome result.store StoresTrueParts }
+    ensures bags { IfSome result.store FormsBags }
+    ensures kept_rows { IfSome result.store KeepsRows }
     ensures rows { IfSome result.store (λ store. rows_wanted words.now ≡ Some store.cap) }
 
     // The bytes written are the transcript, or a prefix of it where writing failed.
     ensures transcript { result.status ≡ Status.Ok → IfSome result.store (λ store.
-        Appends (K.holds sink.old) (K.holds sink.new) (transcript_of store.program store.history)) }
+        Appends (K.holds sink.old) (K.holds sink.new) (text_of store)) }
     ensures counted { result.status ≡ Status.Ok → IfSome result.store (λ store.
-        K.received sink.new ≡ K.received sink.old + length (transcript_of store.program store.history)) }
+        K.received sink.new ≡ K.received sink.old + length (text_of store)) }
     ensures prefix { IfSome result.store (λ store. (written : ℕ)
-        × (written ≤ length (transcript_of store.program store.history))
-        × Appends (K.holds sink.old) (K.holds sink.new) (take written (transcript_of store.program store.history))
+        × (written ≤ length (text_of store))
+        × Appends (K.holds sink.old) (K.holds sink.new) (take written (text_of store))
         × (K.received sink.new ≡ K.received sink.old + written)) }
     ensures nothing { IfNone result.store (K.received sink.new ≡ K.received sink.old) }
     ensures untouched { IfNone result.store (Keeps (K.holds sink.old) (K.holds sink.new)) }

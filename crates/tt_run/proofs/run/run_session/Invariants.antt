@@ -1,5 +1,6 @@
 use Rattle.std.proofs.Common.{◌≡◌}
-use Rattle.tt_plain.specs.Turns.{IsIdle}
+use Rattle.tt_state_parts.specs.Chronicle.{store_of}
+use Rattle.tt_run.specs.Sessions.{IsIdle}
 use Rattle.tt_run.specs.Turns.{HasReplies, InTurn, KeepsOthers}
 use Rattle.tt_run.proofs.run.run_session.Given as goal
 
@@ -11,6 +12,6 @@ invariant-loop-place l =
       same_cap : l.cat.cap ≡ l.fn.cat.cap;
       replies : HasReplies l.cat l.replies.items;
       turn : InTurn l.cat l.session;
-      others : KeepsOthers l.fn.cat.store l.cat.store l.session;
-      idle : IsIdle l.cat.store l.session l.place;
+      others : KeepsOthers (store_of l.fn.cat) (store_of l.cat) l.session;
+      idle : IsIdle (store_of l.cat) l.session l.place;
     }

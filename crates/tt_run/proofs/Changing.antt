@@ -1,0 +1,157 @@
+-- What was built for an INSERT is what it means over what its statement sees.
+use Rattle.std.specs.Option.{option_map}
+use Rattle.std.specs.Prelude.{Bool, Err, List, None, Ok, Option, Result, Some, [], false, if◌then◌else◌, length, map, option_to_list, refl, true, ℕ, ◌++◌, ◌+◌, ◌-◌, ◌<◌, ◌^◌, ◌∷◌, ◌≡◌, ◌≤◌}
+use Rattle.std.proofs.Common.{ap, subst, sym, ◌∙◌}
+use Rattle.std.proofs.lemmas.Option.{none-some, same_Some}
+use Rattle.tt_value.specs.declared.value.Row.{Row}
+use Rattle.tt_value.specs.declared.value.Schema.{Schema}
+use Rattle.tt_script.specs.declared.script.Script.{Script}
+use Rattle.tt_script.specs.Program.{span_of, text_at}
+use Rattle.tt_sql.proofs.text.StatementOf.{is_text_of}
+use Rattle.tt_sql.specs.declared.change.Insert.{Insert}
+use Rattle.tt_sql.specs.declared.change.Tuple.{Tuple}
+use Rattle.tt_sql.specs.declared.statement.Statement.{Statement}
+use Rattle.tt_sql.specs.meaning.Changes.{Changed, Changes, insert_change}
+use Rattle.tt_sql.specs.text.StatementOf.{most_levels, statement_of}
+use Rattle.tt_sql.specs.trees.Statements.{IsWrittenStatement}
+use Rattle.tt_history.specs.declared.reply.Refusal.{Refusal}
+use Rattle.tt_partition.specs.Cuts.{cut, kinds_of}
+use Rattle.tt_plain.proofs.Answers.{bind_some, map_some}
+use Rattle.tt_plain.proofs.law.Lists.{every_at}
+use Rattle.tt_plain.proofs.law.session.Views.{is_table}
+use Rattle.tt_plain.specs.Answers.{◌>>=◌}
+use Rattle.tt_plain.specs.Statements.{InsertsTuples, insertion}
+use Rattle.tt_plain.specs.TypingRefusal.{typing_refusal}
+use Rattle.tt_plain.specs.ValueKinds.{IsFoundByName}
+use Rattle.tt_plain.specs.asked.Asked.{Asked}
+use Rattle.tt_plain.specs.asked.Turns.{asked_with, carried_out, open_asked, statement_read}
+use Rattle.tt_plain.specs.declared.store.Plain.{Plain}
+use Rattle.tt_plain.specs.declared.store.PlainOpen.{PlainOpen}
+use Rattle.tt_plain.specs.declared.store.PlainTable.{PlainTable}
+use Rattle.tt_plain.specs.history.Contents.{added_by_outcome, rows_of_change}
+use Rattle.tt_plain.specs.law.Sound.{IsSound}
+use Rattle.tt_plain.specs.meaning.Outcome.{Does, Outcome, change_outcome, change_seen, outcome_of, rows_read, schema_numbered, schemas_read}
+use Rattle.tt_plain.specs.stored.Tables.{table_numbered}
+use Rattle.tt_built.specs.Built.{built}
+use Rattle.tt_state_parts.proofs.Histories.{in_time, stands_sound, store_is}
+use Rattle.tt_state_parts.proofs.Turns.{is_open}
+use Rattle.tt_state_parts.specs.Chronicle.{Chronicle, IsOpenRead, rows_of, store_of}
+use Rattle.tt_state_parts.specs.declared.ticket.Built.{Built}
+use Rattle.tt_state_parts.specs.declared.ticket.Seen.{Seen}
+use Rattle.tt_state_parts.specs.declared.ticket.Ticket.{Ticket}
+use Rattle.tt_catalog.specs.Changes.{IsBuiltFor, change_asked}
+use Rattle.tt_catalog.specs.Tickets.{HasTarget, IsTargetOf, IsTicketOf, schemas_held}
+use Rattle.tt_change.specs.Accepted.{IsAccepted}
+use Rattle.tt_change.specs.Builds.{PutsIn}
+use Rattle.tt_schema_laws.proofs.Columns.{legal_columns}
+use Rattle.tt_schema_laws.specs.Columns.{HasColumns}
+use Rattle.tt_sql.specs.declared.change.Dml.TheVariants as dml
+use Rattle.tt_sql.specs.declared.change.InsertSource.TheVariants as source
+use Rattle.tt_sql.specs.declared.statement.Statement.TheVariants as tree
+use Rattle.tt_run.specs.Outcomes.{Stands}
+use Rattle.tt_run.specs.Started.{IsWriting}
+
+-- ---- a statement that is carried out was read of a text
+
+ok_carried : (read : Result Statement ℕ) (s : Statement) → carried_out built read ≡ Ok s → read ≡ Ok s
+ok_carried (Err place) s e = cc
+ok_carried (Ok other) s e = ok_if (built.statements other) other s e
+  where
+    ok_if : (test : Bool) (other s : Statement) → if◌then◌else◌ {A = Result Statement ℕ} test (Ok other) (Err 0) ≡ Ok s → ◌≡◌ {A = Result Statement ℕ} (Ok other) (Ok s)
+    ok_if true other s e = e
+    ok_if false other s e = cc
+
+read_written : (program : Script) (session index : ℕ) (s : Statement) → statement_read built program session index ≡ Some (Ok s) → IsWrittenStatement most_levels s
+unfolding statement_read
+read_written program session index s e =
+    let span = map_some (λ span. carried_out built (statement_of (text_at program span))) (span_of program session (index - 1)) (Ok s) e in
+    (is_text_of (text_at program span.0) s (ok_carried (statement_of (text_at program span.0)) s span.2)).written
+
+-- ---- the table of a target
+
+target_is : (chronicle : Chronicle) (seen : Option (ℕ × List Row)) (target : Option Seen) (held : Seen) → target ≡ Some held → HasTarget chronicle seen target → (s : ℕ × List Row) × (seen ≡ Some s) × IsTargetOf chronicle s held
+target_is chronicle seen None held is has = absurd (none-some held is)
+target_is chronicle None (Some other) held is has = absurd has
+target_is chronicle (Some s) (Some other) held is has = (s, refl, subst (IsTargetOf chronicle s) (same_Some other held is) has)
+
+-- the ticket of an INSERT that has begun holds its target alone
+pub is_writing : (ticket : Ticket) (insert : Insert) (held : Seen) → ticket.sources ≡ [] → ticket.target ≡ Some held → typing_refusal (schemas_held ticket) (insertion insert) ≡ None → IsWriting ticket insert
+is_writing ticket insert held none is typed = record {
+  held = held;
+  target = is;
+  typed =
+      subst (λ (t : Option Seen). typing_refusal (map (λ (h : Seen). h.schema) (option_to_list t ++ [])) (insertion insert) ≡ None) is
+      (subst (λ (s : List Seen). typing_refusal (map (λ (h : Seen). h.schema) (option_to_list ticket.target ++ s)) (insertion insert) ≡ None) none typed);
+}
+
+-- the same for the target that is found
+abbrev pub of_held : (ticket : Ticket) (insert : Insert) (held : Seen) → IsWriting ticket insert → ticket.target ≡ Some held → IsWriting ticket insert
+of_held ticket insert held writes is = record {
+  held = held;
+  target = is;
+  typed = subst (λ (h : Seen). typing_refusal (h.schema ∷ []) (insertion insert) ≡ None) (same_Some writes.held held (sym writes.target ∙ is)) writes.typed;
+}
+
+module _ (chronicle : Chronicle) (ticket : Ticket) (insert : Insert) (stands : Stands chronicle) (is : IsTicketOf chronicle ticket (insertion insert)) (writes : IsWriting ticket insert) where
+  abbrev store : Plain
+  store = store_of chronicle
+
+  sound : IsSound built chronicle.program store
+  sound = stands_sound chronicle stands.0 stands.1 stands.2
+
+  target : (s : ℕ × List Row) × (is.seen.target ≡ Some s) × IsTargetOf chronicle s writes.held
+  target = target_is chronicle is.seen.target ticket.target writes.held writes.target is.target
+
+  table : (table : PlainTable) × (table_numbered store target.0.0 ≡ Some table) × (table.schema ≡ writes.held.schema)
+  table = map_some (λ (table : PlainTable). table.schema) (table_numbered store target.0.0) writes.held.schema target.2.schema
+
+  named : IsFoundByName writes.held.schema
+  named = subst IsFoundByName table.2 (is_table built chronicle.program store (target.0.0 - 1) table.0 sound table.1).sound.columns
+
+  columns : (1 ≤ length writes.held.schema.columns) × (length writes.held.schema.columns ≤ 32)
+  columns =
+      let run = stands.2.legal.run in
+      let same = store_is built chronicle.program chronicle.history run stands.2.legal.replayed in
+      let all = legal_columns built chronicle.program chronicle.history run (in_time chronicle stands.0 stands.1 stands.2) stands.2.legal.replayed in
+      let here : HasColumns table.0 = every_at HasColumns run.0.tables (target.0.0 - 1) table.0 all (ap (λ (s : Plain). table_numbered s target.0.0) (sym same) ∙ table.1) in
+      subst (λ (schema : Schema). (1 ≤ length schema.columns) × (length schema.columns ≤ 32)) table.2 here
+
+  pub accepted : IsAccepted writes.held.schema insert
+  accepted = record {
+    written = (read_written chronicle.program ticket.session ticket.index (insertion insert) (is_open chronicle.program store ticket.session ticket.index _ is.seen sound is.is_open).said).2;
+    columns = columns;
+    named = named;
+    typed = writes.typed;
+  }
+
+  -- ---- what is built
+
+  module _ (tuples : List Tuple) (are : InsertsTuples insert tuples) (b : Built) (puts : PutsIn (insert_change writes.held.schema [] [] insert) (kinds_of writes.held.schema) chronicle.cap b) where
+    abbrev asked : Asked
+    asked = change_asked chronicle ticket (dml.Insert insert)
+
+    -- written rows read no table
+    whatever_read : (sources : List Schema) (rows : List Row) → insert_change writes.held.schema sources rows insert ≡ insert_change writes.held.schema [] [] insert
+    whatever_read sources rows = rw are refl
+
+    outcome : outcome_of asked is.seen ≡ Some (Does writes.held.table [] puts.rows b.count)
+    unfolding outcome_of change_seen
+    outcome =
+        let t = target in
+        ap (λ (o : Option (ℕ × List Row)). o >>= λ target. schema_numbered store target.0 >>= λ schema. Some (change_outcome target.0 (insert_change schema (schemas_read store is.seen.sources) (rows_read is.seen.sources) insert))) t.1
+        ∙ ap (λ (o : Option Schema). o >>= λ schema. Some (change_outcome t.0.0 (insert_change schema (schemas_read store is.seen.sources) (rows_read is.seen.sources) insert))) t.2.schema
+        ∙ ap (λ (c : Changed). Some (change_outcome t.0.0 c)) (whatever_read (schemas_read store is.seen.sources) (rows_read is.seen.sources) ∙ puts.change)
+        ∙ ap (λ n. Some (Does n [] puts.rows b.count)) (sym t.2.table)
+
+    pub is_built : IsBuiltFor chronicle ticket b
+    is_built = record {
+      change = dml.Insert insert;
+      is_ticket = is;
+      held = writes.held;
+      target = writes.target;
+      removed = [];
+      added = puts.rows;
+      outcome = outcome;
+      gone = puts.gone;
+      parts = puts.added ∙ ap (cut (kinds_of writes.held.schema) chronicle.cap) (ap added_by_outcome (sym outcome));
+    }

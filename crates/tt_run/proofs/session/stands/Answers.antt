@@ -1,0 +1,7 @@
+use Rattle.std.proofs.Common.{subst}
+use Rattle.tt_state_parts.specs.Chronicle.{Chronicle}
+use Rattle.tt_run.specs.Outcomes.{Stands}
+use Rattle.tt_run.proofs.session.stands.Goals as goal
+
+pub returns : goal.returns
+returns c = subst (λ (b : Chronicle). Stands b) c.cat.view_is (_, _, c.cat.invariant)
