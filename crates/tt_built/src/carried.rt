@@ -13,14 +13,15 @@ pub fn built(statement: &Statement) -> bool
     ensures { result ≡ is_built statement.now }
 {
     match statement {
-        Statement::Query(query) => is_plain_query(query),
+        Statement::Query(query) => plain_query(query),
         Statement::Dml(dml) => is_plain_insert(dml),
-        Statement::Create(table) => is_plain_create(table),
+        Statement::Create(table) => plain_create(table),
         _ => false,
     }
 }
 
-fn is_plain_create(table: &CreatedTable) -> bool
+/// Whether a CREATE TABLE is carried out by now: without OR REPLACE, TRANSIENT and options.
+pub fn plain_create(table: &CreatedTable) -> bool
     ensures { result ≡ is_plain_create table.now }
 {
     !table.replaces
@@ -50,7 +51,8 @@ fn has_values(source: &InsertSource) -> bool
     matches!(source, InsertSource::Values(_))
 }
 
-fn is_plain_query(query: &Query) -> bool
+/// Whether a query is carried out by now: all rows of one table as they are now.
+pub fn plain_query(query: &Query) -> bool
     ensures { result ≡ is_plain_query query.now }
 {
     is_whole_table(query) && query.first.clause.is_none()

@@ -4,4 +4,4 @@
 pub mod carried;
 pub mod laws;
 
-pub use carried::built;
+pub use carried::{built, plain_create, plain_query};

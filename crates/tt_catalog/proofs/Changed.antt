@@ -16,7 +16,8 @@ use Rattle.tt_marks.specs.Changes.{released}
 use Rattle.tt_partition.specs.Cuts.{cut, kinds_of}
 use Rattle.tt_partition.specs.Table.{IsPart, Table}
 use Rattle.tt_plain.proofs.Answers.{map_some}
-use Rattle.tt_plain.specs.Answers.{only_if, ◌>>=◌}
+use Rattle.tt_script.specs.Lines.{only_if}
+use Rattle.tt_plain.specs.Answers.{◌>>=◌}
 use Rattle.tt_plain.specs.asked.Asked.{Asked, request_asked, state_asked}
 use Rattle.tt_plain.specs.declared.store.Plain.{Plain}
 use Rattle.tt_plain.specs.declared.store.PlainOpen.{PlainOpen}
@@ -42,20 +43,20 @@ use Rattle.tt_plain.specs.tally.Layouts.{is_ascending, parts_seen}
 use Rattle.tt_plain.specs.tally.Parts.{numbers_added, rows_in_added, rows_in_parts}
 use Rattle.tt_built.proofs.Reaches.{insert_built}
 use Rattle.tt_built.specs.Built.{built, is_plain_insert}
-use Rattle.tt_state_parts.proofs.Goes.{GoesOn, alone_now, ended_less, idle_now, marks_now, sessions_now}
-use Rattle.tt_state_parts.proofs.Histories.{early}
-use Rattle.tt_state_parts.proofs.Pins.{other_pins, own_pins, pins_left}
-use Rattle.tt_state_parts.proofs.Steps.{end_is, end_step}
-use Rattle.tt_state_parts.proofs.TrueFacts.{IsTrueEntry}
-use Rattle.tt_state_parts.proofs.Turns.{IsOpen, ready, said_built}
-use Rattle.tt_state_parts.specs.Chronicle.{Chronicle, IsOpenRead, entry_at, rows_of, store_of}
-use Rattle.tt_state_parts.specs.Keeps.{KeepsTables, StandsFor, schema_at, schema_of}
-use Rattle.tt_state_parts.specs.Kept.{Kept}
-use Rattle.tt_state_parts.specs.Moves.{IsReady}
-use Rattle.tt_state_parts.specs.declared.part.StoredPart.{StoredPart}
-use Rattle.tt_state_parts.specs.declared.ticket.Built.{Built}
-use Rattle.tt_state_parts.specs.declared.ticket.Seen.{Seen}
-use Rattle.tt_state_parts.specs.declared.ticket.Ticket.{Ticket}
+use Rattle.tt_state.proofs.Goes.{GoesOn, alone_now, ended_less, idle_now, marks_now, sessions_now}
+use Rattle.tt_state.proofs.Histories.{early}
+use Rattle.tt_state.proofs.Pins.{other_pins, own_pins, pins_left}
+use Rattle.tt_state.proofs.Steps.{end_is, end_step}
+use Rattle.tt_state.proofs.TrueFacts.{IsTrueEntry}
+use Rattle.tt_state.proofs.Turns.{IsOpen, ready, said_built}
+use Rattle.tt_state.specs.Chronicle.{Chronicle, IsOpenRead, entry_at, rows_of, store_of}
+use Rattle.tt_state.specs.Keeps.{KeepsTables, StandsFor, schema_at, schema_of}
+use Rattle.tt_state.specs.Kept.{Kept}
+use Rattle.tt_state.specs.Moves.{IsReady}
+use Rattle.tt_state.specs.declared.part.StoredPart.{StoredPart}
+use Rattle.tt_state.specs.declared.ticket.Built.{Built}
+use Rattle.tt_state.specs.declared.ticket.Seen.{Seen}
+use Rattle.tt_state.specs.declared.ticket.Ticket.{Ticket}
 use Rattle.tt_history.specs.declared.history.Actor.TheVariants as actor
 use Rattle.tt_history.specs.declared.history.EntryKind.TheVariants as kind
 use Rattle.tt_sql.specs.declared.statement.Statement.TheVariants as tree

@@ -25,18 +25,18 @@ use Rattle.tt_plain.specs.stored.Points.{point_place}
 use Rattle.tt_plain.specs.stored.Sessions.{session_at}
 use Rattle.tt_plain.specs.tally.Changes.{with_pins}
 use Rattle.tt_built.specs.Built.{built}
-use Rattle.tt_state_parts.proofs.Ended.{closed_at, state_is}
-use Rattle.tt_state_parts.proofs.Goes.{GoesOn, alone_now, ended_less, idle_now, marks_now, same_marks, sessions_now, tables_stay}
-use Rattle.tt_state_parts.proofs.Histories.{contents_same, stands_sound}
-use Rattle.tt_state_parts.proofs.Filters.{filter_keeps, filter_none}
-use Rattle.tt_state_parts.proofs.Pins.{not_own, other_pins, own_gone, own_pins, pins_left}
-use Rattle.tt_state_parts.proofs.Steps.{abandon_starved, abandon_step, end_is, end_step}
-use Rattle.tt_state_parts.proofs.TrueFacts.{adds_no_part}
-use Rattle.tt_state_parts.proofs.Turns.{IsOpen, is_open}
-use Rattle.tt_state_parts.specs.Chronicle.{Chronicle, IsOpenRead, entry_at, rows_of, store_of}
-use Rattle.tt_state_parts.specs.Keeps.{StandsFor, mark_of}
-use Rattle.tt_state_parts.specs.Kept.{Kept}
-use Rattle.tt_state_parts.specs.Moves.{with_ended}
+use Rattle.tt_state.proofs.Ended.{closed_at, state_is}
+use Rattle.tt_state.proofs.Goes.{GoesOn, alone_now, ended_less, idle_now, marks_now, same_marks, sessions_now, tables_stay}
+use Rattle.tt_state.proofs.Histories.{contents_same, stands_sound}
+use Rattle.tt_state.proofs.Filters.{filter_keeps, filter_none}
+use Rattle.tt_state.proofs.Pins.{not_own, other_pins, own_gone, own_pins, pins_left}
+use Rattle.tt_state.proofs.Steps.{abandon_starved, abandon_step, end_is, end_step}
+use Rattle.tt_state.proofs.TrueFacts.{adds_no_part}
+use Rattle.tt_state.proofs.Turns.{IsOpen, is_open}
+use Rattle.tt_state.specs.Chronicle.{Chronicle, IsOpenRead, entry_at, rows_of, store_of}
+use Rattle.tt_state.specs.Keeps.{StandsFor, mark_of}
+use Rattle.tt_state.specs.Kept.{Kept}
+use Rattle.tt_state.specs.Moves.{with_ended}
 use Rattle.tt_history.specs.declared.history.EntryKind.TheVariants as kind
 use Rattle.tt_history.specs.declared.history.Told.TheVariants as told
 use Rattle.tt_history.specs.declared.reply.Reply.TheVariants as reply

@@ -28,15 +28,16 @@ use Rattle.tt_value.specs.declared.value.Row.{Row}
 use Rattle.tt_value.specs.declared.value.Schema.{Schema}
 use Rattle.tt_value.specs.values.Bags.{bag_of}
 use Rattle.tt_built.specs.Built.{built}
-use Rattle.tt_state_parts.proofs.Histories.{in_time, store_is}
-use Rattle.tt_state_parts.specs.Chronicle.{Chronicle, IsOpenRead, rows_of, store_of}
-use Rattle.tt_state_parts.specs.Keeps.{AreKeptParts, ArePartNumbers, AreTrueParts, HasKeptParts, IsTruePart, KeepsTables, StandsFor, schema_at}
-use Rattle.tt_state_parts.specs.Kept.{Kept, live_kept, numbers_now, part_kept, table_in, table_kept, with_part}
-use Rattle.tt_state_parts.specs.declared.part.StoredPart.{StoredPart}
-use Rattle.tt_state_parts.specs.declared.state.TableState.{TableState}
-use Rattle.tt_state_parts.specs.declared.ticket.Seen.{Seen}
+use Rattle.tt_state.proofs.Histories.{in_time, store_is}
+use Rattle.tt_state.specs.Chronicle.{Chronicle, IsOpenRead, rows_of, store_of}
+use Rattle.tt_state.specs.Keeps.{AreKeptParts, ArePartNumbers, AreTrueParts, HasKeptParts, IsTruePart, KeepsTables, StandsFor, schema_at}
+use Rattle.tt_state.specs.Kept.{Kept, live_kept, numbers_now, part_kept, table_in, table_kept, with_part}
+use Rattle.tt_state.specs.declared.part.StoredPart.{StoredPart}
+use Rattle.tt_state.specs.declared.state.TableState.{TableState}
+use Rattle.tt_state.specs.declared.ticket.Seen.{Seen}
 use Rattle.tt_catalog.specs.Starts.{HasAllParts}
-use Rattle.tt_catalog.specs.Tickets.{IsHeld, StandsForRows, part_of, rows_held}
+use Rattle.tt_state.specs.Held.{rows_held}
+use Rattle.tt_catalog.specs.Tickets.{IsHeld, StandsForRows, part_of}
 
 -- ---- the numbers of a table's parts
 

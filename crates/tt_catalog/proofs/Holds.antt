@@ -3,10 +3,10 @@ use Rattle.std.specs.Prelude.{ℕ}
 use Rattle.std.proofs.Common.{ap, ◌∙◌}
 use Rattle.tt_sql.specs.declared.change.Insert.{Insert}
 use Rattle.tt_sql.specs.declared.query.Query.{Query}
-use Rattle.tt_state_parts.specs.Kept.{Kept}
-use Rattle.tt_state_parts.specs.declared.ticket.Started.{Started}
-use Rattle.tt_state_parts.specs.declared.ticket.Ticket.{Ticket}
-use Rattle.tt_state_parts.specs.declared.ticket.Started.TheVariants as started
+use Rattle.tt_state.specs.Kept.{Kept}
+use Rattle.tt_state.specs.declared.ticket.Started.{Started}
+use Rattle.tt_state.specs.declared.ticket.Ticket.{Ticket}
+use Rattle.tt_state.specs.declared.ticket.Started.TheVariants as started
 use Rattle.tt_catalog.specs.Starts.{StartsInsert, StartsQuery, held_whole}
 use Rattle.tt_catalog.specs.Tickets.{HoldsSource, HoldsTarget}
 

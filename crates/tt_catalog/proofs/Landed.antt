@@ -27,10 +27,10 @@ use Rattle.tt_plain.specs.tally.Changes.{part_added}
 use Rattle.tt_plain.specs.tally.Facts.{facts_of_part, stored_parts}
 use Rattle.tt_plain.specs.tally.Layouts.{layouts_of}
 use Rattle.tt_plain_laws.proofs.parts.Contents.{append_get, behind_get, same_numbered, seam_get}
-use Rattle.tt_state_parts.specs.Keeps.{AreKeptParts, AreTrueParts, HasKeptParts, KeepsTables, schema_at, schema_of, table_of}
-use Rattle.tt_state_parts.specs.Kept.{Kept, part_kept, table_in}
-use Rattle.tt_state_parts.specs.declared.part.StoredPart.{StoredPart}
-use Rattle.tt_state_parts.specs.declared.state.TableState.{TableState}
+use Rattle.tt_state.specs.Keeps.{AreKeptParts, AreTrueParts, HasKeptParts, KeepsTables, schema_at, schema_of, table_of}
+use Rattle.tt_state.specs.Kept.{Kept, part_kept, table_in}
+use Rattle.tt_state.specs.declared.part.StoredPart.{StoredPart}
+use Rattle.tt_state.specs.declared.state.TableState.{TableState}
 use Rattle.tt_catalog.proofs.Numbered.{all_stored, in_range, length-stored, same_facts}
 use Rattle.tt_catalog.proofs.Tallied.{IsTallied}
 use Rattle.tt_catalog.proofs.Versions.{AreVersioned, one_changed, same_kept, same_length, same_names, same_schema}

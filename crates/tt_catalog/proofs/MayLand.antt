@@ -21,11 +21,11 @@ use Rattle.tt_plain.specs.law.Sound.{AreSoundLayouts, IsSound}
 use Rattle.tt_plain.specs.tally.Layouts.{layouts_of}
 use Rattle.tt_built.specs.Built.{built}
 use Rattle.tt_script.specs.declared.script.Script.{Script}
-use Rattle.tt_state_parts.proofs.Lookups.{number_tied}
-use Rattle.tt_state_parts.specs.Keeps.{AreKeptParts, ArePartNumbers, HasKeptParts, KeepsTables, table_of}
-use Rattle.tt_state_parts.specs.Kept.{Kept, table_kept}
-use Rattle.tt_state_parts.specs.declared.part.StoredPart.{StoredPart}
-use Rattle.tt_state_parts.specs.declared.state.TableState.{TableState}
+use Rattle.tt_state.proofs.Lookups.{number_tied}
+use Rattle.tt_state.specs.Keeps.{AreKeptParts, ArePartNumbers, HasKeptParts, KeepsTables, table_of}
+use Rattle.tt_state.specs.Kept.{Kept, table_kept}
+use Rattle.tt_state.specs.declared.part.StoredPart.{StoredPart}
+use Rattle.tt_state.specs.declared.state.TableState.{TableState}
 use Rattle.tt_catalog.proofs.Landed.{current_kept, none_kept}
 use Rattle.tt_catalog.proofs.Numbered.{both_true, range_ascends}
 use Rattle.tt_catalog.specs.Changes.{changed_at, facts_from, numbers_behind, stored_from, tables_after, with_landed}

@@ -15,7 +15,7 @@ use Rattle.tt_plain.specs.law.Lists.{Every}
 use Rattle.tt_plain.specs.tally.Changes.{part_added}
 use Rattle.tt_plain.specs.tally.Facts.{facts_of_part}
 use Rattle.tt_plain.specs.tally.Parts.{are_next_parts, has_right_size, numbers_added}
-use Rattle.tt_state_parts.specs.declared.part.StoredPart.{StoredPart}
+use Rattle.tt_state.specs.declared.part.StoredPart.{StoredPart}
 use Rattle.tt_catalog.specs.Changes.{facts_from, stored_as, stored_from}
 
 bytes_eq_self : (xs : List ℕ) → bytes_eq xs xs ≡ true

@@ -35,7 +35,7 @@ use Rattle.tt_built.specs.Built.{is_built}
 use Rattle.tt_built.proofs.Reaches.{query_built}
 use Rattle.tt_history.specs.declared.reply.Refusal.TheVariants as refusal
 use Rattle.tt_sql.specs.declared.statement.Statement.TheVariants as tree
-use Rattle.tt_state_parts.proofs.Lists.{all_behind}
+use Rattle.tt_state.proofs.Lists.{all_behind}
 
 abbrev no : Option Refusal
 no = None

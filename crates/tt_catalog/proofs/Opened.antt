@@ -33,23 +33,23 @@ use Rattle.tt_plain.specs.refusal.First.{refusal_of}
 use Rattle.tt_plain.specs.stored.Points.{point_place}
 use Rattle.tt_plain.specs.stored.Sessions.{session_at}
 use Rattle.tt_built.specs.Built.{built}
-use Rattle.tt_state_parts.proofs.Goes.{GoesOn}
-use Rattle.tt_state_parts.proofs.Histories.{store_longer}
-use Rattle.tt_state_parts.proofs.Pins.{pins_now}
-use Rattle.tt_state_parts.proofs.Turns.{is_next, said_built}
-use Rattle.tt_state_parts.specs.Chronicle.{Chronicle, IsNextRead, IsOpenRead, entry_at, store_of}
-use Rattle.tt_state_parts.specs.Keeps.{StandsFor, mark_of, table_of}
-use Rattle.tt_state_parts.specs.Kept.{Kept}
-use Rattle.tt_state_parts.specs.Moves.{IsReady, with_begun}
-use Rattle.tt_state_parts.specs.declared.state.TableState.{TableState}
-use Rattle.tt_state_parts.specs.declared.ticket.Seen.{Seen}
-use Rattle.tt_state_parts.specs.declared.ticket.Started.{Started}
-use Rattle.tt_state_parts.specs.declared.ticket.Ticket.{Ticket}
+use Rattle.tt_state.proofs.Goes.{GoesOn}
+use Rattle.tt_state.proofs.Histories.{store_longer}
+use Rattle.tt_state.proofs.Pins.{pins_now}
+use Rattle.tt_state.proofs.Turns.{is_next, said_built}
+use Rattle.tt_state.specs.Chronicle.{Chronicle, IsNextRead, IsOpenRead, entry_at, store_of}
+use Rattle.tt_state.specs.Keeps.{StandsFor, mark_of, table_of}
+use Rattle.tt_state.specs.Kept.{Kept}
+use Rattle.tt_state.specs.Moves.{IsReady, with_begun}
+use Rattle.tt_state.specs.declared.state.TableState.{TableState}
+use Rattle.tt_state.specs.declared.ticket.Seen.{Seen}
+use Rattle.tt_state.specs.declared.ticket.Started.{Started}
+use Rattle.tt_state.specs.declared.ticket.Ticket.{Ticket}
 use Rattle.tt_history.specs.declared.history.EntryKind.TheVariants as kind
 use Rattle.tt_history.specs.declared.history.Told.TheVariants as told
 use Rattle.tt_sql.specs.declared.change.InsertSource.TheVariants as source
 use Rattle.tt_sql.specs.declared.statement.Statement.TheVariants as tree
-use Rattle.tt_state_parts.specs.declared.ticket.Started.TheVariants as started
+use Rattle.tt_state.specs.declared.ticket.Started.TheVariants as started
 use Rattle.tt_catalog.proofs.Held.{bags_held, parts_tied}
 use Rattle.tt_catalog.proofs.Marked.{others_shared, own_shared}
 use Rattle.tt_catalog.proofs.OneTable.{insert_refusal, plain_query, query_is, query_refusal, table_over}

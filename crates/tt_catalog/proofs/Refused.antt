@@ -9,15 +9,15 @@ use Rattle.tt_plain.specs.effect.Apply.{applied}
 use Rattle.tt_plain.specs.effect.Ending.{ended_with}
 use Rattle.tt_plain.specs.refusal.First.{refusal_of}
 use Rattle.tt_built.specs.Built.{built}
-use Rattle.tt_state_parts.proofs.Ended.{ended_goes}
-use Rattle.tt_state_parts.proofs.Goes.{GoesOn}
-use Rattle.tt_state_parts.proofs.Steps.{start_refused, start_step}
-use Rattle.tt_state_parts.proofs.TrueFacts.{adds_no_part}
-use Rattle.tt_state_parts.proofs.Turns.{is_next}
-use Rattle.tt_state_parts.specs.Chronicle.{Chronicle, IsNextRead, entry_at, rows_of, store_of}
-use Rattle.tt_state_parts.specs.Keeps.{StandsFor}
-use Rattle.tt_state_parts.specs.Kept.{Kept}
-use Rattle.tt_state_parts.specs.Moves.{IsReady, with_ended}
+use Rattle.tt_state.proofs.Ended.{ended_goes}
+use Rattle.tt_state.proofs.Goes.{GoesOn}
+use Rattle.tt_state.proofs.Steps.{start_refused, start_step}
+use Rattle.tt_state.proofs.TrueFacts.{adds_no_part}
+use Rattle.tt_state.proofs.Turns.{is_next}
+use Rattle.tt_state.specs.Chronicle.{Chronicle, IsNextRead, entry_at, rows_of, store_of}
+use Rattle.tt_state.specs.Keeps.{StandsFor}
+use Rattle.tt_state.specs.Kept.{Kept}
+use Rattle.tt_state.specs.Moves.{IsReady, with_ended}
 use Rattle.tt_history.specs.declared.history.EntryKind.TheVariants as kind
 use Rattle.tt_history.specs.declared.history.Told.TheVariants as told
 use Rattle.tt_history.specs.declared.reply.Refusal.TheVariants as refusal

@@ -13,7 +13,8 @@ use Rattle.tt_marks.specs.Marks.{marks_of}
 use Rattle.tt_marks.specs.declared.mark.Mark.{Mark}
 use Rattle.tt_plain.proofs.Tests.{same_test}
 use Rattle.tt_plain.proofs.law.session.Views.{IsTable, is_table}
-use Rattle.tt_plain.specs.Answers.{only_if, ◌>>=◌}
+use Rattle.tt_script.specs.Lines.{only_if}
+use Rattle.tt_plain.specs.Answers.{◌>>=◌}
 use Rattle.tt_plain.specs.asked.Asked.{Asked, request_asked, state_asked, table_asked}
 use Rattle.tt_plain.specs.asked.Event.{first_event, is_same_event}
 use Rattle.tt_plain.specs.asked.Turns.{asked_with, open_asked, statement_read}
@@ -39,22 +40,22 @@ use Rattle.tt_plain.specs.stored.Sessions.{session_at}
 use Rattle.tt_plain.specs.tally.Changes.{with_pins}
 use Rattle.tt_script.specs.declared.script.Script.{Script}
 use Rattle.tt_built.specs.Built.{built}
-use Rattle.tt_state_parts.proofs.Ended.{closed_at, ended_goes, state_is}
-use Rattle.tt_state_parts.proofs.Filters.{filter_all, filter_out}
-use Rattle.tt_state_parts.proofs.Goes.{GoesOn, alone_now, begun_less, idle_now, marks_now, sessions_now, tables_stay}
-use Rattle.tt_state_parts.proofs.Histories.{contents_same, stands_sound}
-use Rattle.tt_state_parts.proofs.Lists.{all_behind, set_same}
-use Rattle.tt_state_parts.proofs.Lookups.{found_at, live_tied}
-use Rattle.tt_state_parts.proofs.Pins.{other_pins, own_pins, pins_now}
-use Rattle.tt_state_parts.proofs.Steps.{start_done, start_refused, start_starved, start_step}
-use Rattle.tt_state_parts.proofs.TrueFacts.{IsTrueEntry, adds_no_part}
-use Rattle.tt_state_parts.proofs.Turns.{IsNext, is_next}
-use Rattle.tt_state_parts.specs.Chronicle.{Chronicle, IsNextRead, entry_at, rows_of, store_of}
-use Rattle.tt_state_parts.specs.Keeps.{ArePins, StandsFor, is_live_as, mark_of, table_of}
-use Rattle.tt_state_parts.specs.Kept.{Kept, live_kept}
-use Rattle.tt_state_parts.specs.Moves.{with_begun, with_ended}
-use Rattle.tt_state_parts.specs.declared.state.SessionState.{SessionState}
-use Rattle.tt_state_parts.specs.declared.state.TableState.{TableState}
+use Rattle.tt_state.proofs.Ended.{closed_at, ended_goes, state_is}
+use Rattle.tt_state.proofs.Filters.{filter_all, filter_out}
+use Rattle.tt_state.proofs.Goes.{GoesOn, alone_now, begun_less, idle_now, marks_now, sessions_now, tables_stay}
+use Rattle.tt_state.proofs.Histories.{contents_same, stands_sound}
+use Rattle.tt_state.proofs.Lists.{all_behind, set_same}
+use Rattle.tt_state.proofs.Lookups.{found_at, live_tied}
+use Rattle.tt_state.proofs.Pins.{other_pins, own_pins, pins_now}
+use Rattle.tt_state.proofs.Steps.{start_done, start_refused, start_starved, start_step}
+use Rattle.tt_state.proofs.TrueFacts.{IsTrueEntry, adds_no_part}
+use Rattle.tt_state.proofs.Turns.{IsNext, is_next}
+use Rattle.tt_state.specs.Chronicle.{Chronicle, IsNextRead, entry_at, rows_of, store_of}
+use Rattle.tt_state.specs.Keeps.{ArePins, StandsFor, is_live_as, mark_of, table_of}
+use Rattle.tt_state.specs.Kept.{Kept, live_kept}
+use Rattle.tt_state.specs.Moves.{with_begun, with_ended}
+use Rattle.tt_state.specs.declared.state.SessionState.{SessionState}
+use Rattle.tt_state.specs.declared.state.TableState.{TableState}
 use Rattle.tt_history.specs.declared.history.EntryKind.TheVariants as kind
 use Rattle.tt_history.specs.declared.history.Told.TheVariants as told
 use Rattle.tt_history.specs.declared.reply.Reply.TheVariants as reply

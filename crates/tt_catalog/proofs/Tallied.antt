@@ -7,7 +7,7 @@ use Rattle.tt_plain.specs.declared.tally.Tally.{Tally}
 use Rattle.tt_plain.specs.tally.Changes.{AddsParts, Unpins, changed_tally, part_added, with_pins}
 use Rattle.tt_plain.specs.tally.Layouts.{layouts_of}
 use Rattle.tt_plain.specs.tally.Pending.{layout_begun}
-use Rattle.tt_state_parts.proofs.Lists.{set_other, set_same}
+use Rattle.tt_state.proofs.Lists.{set_other, set_same}
 use Rattle.tt_layout.specs.Chain.{with_change}
 use Rattle.tt_catalog.specs.Changes.{layouts_after}
 

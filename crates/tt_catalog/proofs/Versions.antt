@@ -14,8 +14,8 @@ use Rattle.tt_plain.specs.stored.Tables.{table_numbered}
 use Rattle.tt_plain.specs.tally.Layouts.{layouts_of}
 use Rattle.std.specs.List.{fold}
 use Rattle.tt_names.specs.Registry.{Registry}
-use Rattle.tt_state_parts.specs.Keeps.{AreNames, is_live_as, schema_at, schema_of, table_of}
-use Rattle.tt_state_parts.specs.declared.state.TableState.{TableState}
+use Rattle.tt_state.specs.Keeps.{AreNames, is_live_as, schema_at, schema_of, table_of}
+use Rattle.tt_state.specs.declared.state.TableState.{TableState}
 use Rattle.tt_catalog.specs.Changes.{changed_at}
 
 -- the same tables, but for their versions

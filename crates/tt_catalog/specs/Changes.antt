@@ -17,13 +17,13 @@ use Rattle.tt_plain.specs.effect.End.{count_reply}
 use Rattle.tt_plain.specs.history.Contents.{rows_of_change}
 use Rattle.tt_plain.specs.history.TrueFacts.{parts_to_replace}
 use Rattle.tt_plain.specs.meaning.Outcome.{Does, outcome_of}
-use Rattle.tt_state_parts.specs.Chronicle.{Chronicle, MadeEntry, entry_at, rows_of, store_of}
-use Rattle.tt_state_parts.specs.Kept.{Kept}
-use Rattle.tt_state_parts.specs.declared.part.StoredPart.{StoredPart}
-use Rattle.tt_state_parts.specs.declared.state.TableState.{TableState}
-use Rattle.tt_state_parts.specs.declared.ticket.Built.{Built}
-use Rattle.tt_state_parts.specs.declared.ticket.Seen.{Seen}
-use Rattle.tt_state_parts.specs.declared.ticket.Ticket.{Ticket}
+use Rattle.tt_state.specs.Chronicle.{Chronicle, MadeEntry, entry_at, rows_of, store_of}
+use Rattle.tt_state.specs.Kept.{Kept}
+use Rattle.tt_state.specs.declared.part.StoredPart.{StoredPart}
+use Rattle.tt_state.specs.declared.state.TableState.{TableState}
+use Rattle.tt_state.specs.declared.ticket.Built.{Built}
+use Rattle.tt_state.specs.declared.ticket.Seen.{Seen}
+use Rattle.tt_state.specs.declared.ticket.Ticket.{Ticket}
 use Rattle.tt_catalog.specs.Ends.{with_given_up}
 use Rattle.tt_catalog.specs.Tickets.{IsTicketOf}
 use Rattle.tt_history.specs.declared.history.EntryKind.TheVariants as kind

@@ -7,13 +7,13 @@ use Rattle.tt_marks.specs.Changes.{released}
 use Rattle.tt_plain.specs.declared.store.PlainOpen.{PlainOpen}
 use Rattle.tt_plain.specs.declared.tally.TallyPin.{TallyPin}
 use Rattle.tt_plain.specs.meaning.Outcome.{answer_seen}
-use Rattle.tt_state_parts.specs.Chronicle.{Chronicle, IsOpenRead, MadeEntry, entry_at, store_of}
-use Rattle.tt_state_parts.specs.Kept.{Kept}
-use Rattle.tt_state_parts.specs.Moves.{with_ended}
+use Rattle.tt_state.specs.Chronicle.{Chronicle, IsOpenRead, MadeEntry, entry_at, store_of}
+use Rattle.tt_state.specs.Kept.{Kept}
+use Rattle.tt_state.specs.Moves.{with_ended}
 use Rattle.tt_script.specs.declared.script.Script.{Script}
 use Rattle.tt_history.specs.Refusals.{refusal_number}
 use Rattle.tt_history.specs.declared.reply.Refusal.{Refusal}
-use Rattle.tt_state_parts.specs.declared.ticket.Ticket.{Ticket}
+use Rattle.tt_state.specs.declared.ticket.Ticket.{Ticket}
 use Rattle.tt_history.specs.declared.history.EntryKind.TheVariants as kind
 use Rattle.tt_history.specs.declared.history.Told.TheVariants as told
 use Rattle.tt_history.specs.declared.reply.Reply.TheVariants as reply

@@ -3,10 +3,10 @@ use Rattle.std.specs.Prelude.{List, Some, length, ℕ, ◌+◌, ◌<◌, ◌^◌
 use Rattle.tt_history.specs.declared.history.Added.{Added}
 use Rattle.tt_layout.specs.Chain.{current_of, last_begun}
 use Rattle.tt_layout.specs.Numbers.{HasAll, HasNone, IsAscending}
-use Rattle.tt_state_parts.specs.Keeps.{ArePartNumbers}
-use Rattle.tt_state_parts.specs.Kept.{Kept, table_kept}
-use Rattle.tt_state_parts.specs.declared.part.StoredPart.{StoredPart}
-use Rattle.tt_state_parts.specs.declared.state.TableState.{TableState}
+use Rattle.tt_state.specs.Keeps.{ArePartNumbers}
+use Rattle.tt_state.specs.Kept.{Kept, table_kept}
+use Rattle.tt_state.specs.declared.part.StoredPart.{StoredPart}
+use Rattle.tt_state.specs.declared.state.TableState.{TableState}
 
 -- what an entry tells of a part that is kept
 abbrev pub added_as : StoredPart → Added

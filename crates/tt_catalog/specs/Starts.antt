@@ -14,20 +14,20 @@ use Rattle.tt_plain.specs.Statements.{insertion}
 use Rattle.tt_plain.specs.TypingRefusal.{typing_refusal}
 use Rattle.tt_plain.specs.declared.tally.TallyPin.{TallyPin}
 use Rattle.tt_plain.specs.law.Lists.{Every}
-use Rattle.tt_state_parts.specs.Keeps.{HasKeptParts}
-use Rattle.tt_state_parts.specs.Kept.{Kept, kept_of, live_kept, numbers_now, with_part}
-use Rattle.tt_state_parts.specs.Moves.{with_begun, with_ended}
-use Rattle.tt_state_parts.specs.declared.part.StoredPart.{StoredPart}
-use Rattle.tt_state_parts.specs.declared.state.State.{State}
-use Rattle.tt_state_parts.specs.declared.state.TableState.{TableState}
-use Rattle.tt_state_parts.specs.declared.ticket.Seen.{Seen}
-use Rattle.tt_state_parts.specs.declared.ticket.Started.{Started}
-use Rattle.tt_state_parts.specs.declared.ticket.Ticket.{Ticket}
+use Rattle.tt_state.specs.Keeps.{HasKeptParts}
+use Rattle.tt_state.specs.Kept.{Kept, kept_of, live_kept, numbers_now, with_part}
+use Rattle.tt_state.specs.Moves.{with_begun, with_ended}
+use Rattle.tt_state.specs.declared.part.StoredPart.{StoredPart}
+use Rattle.tt_state.specs.declared.state.State.{State}
+use Rattle.tt_state.specs.declared.state.TableState.{TableState}
+use Rattle.tt_state.specs.declared.ticket.Seen.{Seen}
+use Rattle.tt_state.specs.declared.ticket.Started.{Started}
+use Rattle.tt_state.specs.declared.ticket.Ticket.{Ticket}
 use Rattle.tt_catalog.specs.declared.starting.Unopened.{Unopened}
 use Rattle.tt_history.specs.declared.history.Told.TheVariants as told
 use Rattle.tt_history.specs.declared.reply.Refusal.TheVariants as refusal
 use Rattle.tt_sql.specs.declared.statement.Statement.TheVariants as tree
-use Rattle.tt_state_parts.specs.declared.ticket.Started.TheVariants as started
+use Rattle.tt_state.specs.declared.ticket.Started.TheVariants as started
 use Rattle.tt_catalog.specs.declared.starting.Unopened.TheVariants as unopened
 
 -- ---- the table

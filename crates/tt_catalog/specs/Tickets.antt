@@ -1,6 +1,6 @@
 -- Tickets of open statements: the tables that they hold, with the parts that are pinned for them.
 use Rattle.std.specs.List.{AllZip}
-use Rattle.std.specs.Prelude.{List, None, Ok, Option, Some, [], flat_map, map, option_to_list, ℕ, ⊤, ◌++◌, ◌∷◌, ◌≡◌}
+use Rattle.std.specs.Prelude.{List, None, Ok, Option, Some, [], map, option_to_list, ℕ, ⊤, ◌++◌, ◌∷◌, ◌≡◌}
 use Rattle.tt_value.specs.declared.value.Row.{Row}
 use Rattle.tt_value.specs.declared.value.Schema.{Schema}
 use Rattle.tt_value.specs.values.Bags.{bag_of}
@@ -15,13 +15,14 @@ use Rattle.tt_plain.specs.declared.tally.TallyPin.{TallyPin}
 use Rattle.tt_plain.specs.history.Contents.{rows_numbered}
 use Rattle.tt_plain.specs.law.Bag.{pins_of}
 use Rattle.tt_plain.specs.meaning.Outcome.{schema_numbered}
-use Rattle.tt_state_parts.specs.Chronicle.{Chronicle, IsOpenRead, MadeEntry, entry_at, rows_of, store_of}
-use Rattle.tt_state_parts.specs.declared.ticket.Seen.{Seen}
-use Rattle.tt_state_parts.specs.declared.ticket.Started.{Started}
-use Rattle.tt_state_parts.specs.declared.ticket.Ticket.{Ticket}
+use Rattle.tt_state.specs.Held.{rows_held, schemas_held}
+use Rattle.tt_state.specs.Chronicle.{Chronicle, IsOpenRead, MadeEntry, entry_at, rows_of, store_of}
+use Rattle.tt_state.specs.declared.ticket.Seen.{Seen}
+use Rattle.tt_state.specs.declared.ticket.Started.{Started}
+use Rattle.tt_state.specs.declared.ticket.Ticket.{Ticket}
 use Rattle.tt_history.specs.declared.history.EntryKind.TheVariants as kind
 use Rattle.tt_history.specs.declared.reply.Reply.TheVariants as reply
-use Rattle.tt_state_parts.specs.declared.ticket.Started.TheVariants as started
+use Rattle.tt_state.specs.declared.ticket.Started.TheVariants as started
 
 -- ---- tables that are held
 
@@ -34,10 +35,6 @@ pub record IsHeld (chronicle : Chronicle) (pin : TallyPin) (held : Seen) : Type 
   pub table : held.table ≡ pin.table
   pub schema : schema_numbered (store_of chronicle) pin.table ≡ Some held.schema
   pub parts : held.parts ≡ map (part_of chronicle held.schema) pin.parts
-
--- the rows of the parts that are held, in order
-abbrev pub rows_held : Seen → List Row
-rows_held held = flat_map (λ (part : ℕ × Table). part.1.rows) held.parts
 
 -- the parts form what the open statement sees of the table
 abbrev pub StandsForRows : ℕ × List Row → Seen → Type 0
@@ -66,8 +63,8 @@ pub record IsTicketOf (chronicle : Chronicle) (ticket : Ticket) (statement : Sta
   pub target : HasTarget chronicle seen.target ticket.target
 
 -- the schemas of its tables, in the order in which the statement names them
-abbrev pub schemas_held : Ticket → List Schema
-schemas_held ticket = map (λ (held : Seen). held.schema) (option_to_list ticket.target ++ ticket.sources)
+abbrev pub schemas_of : Ticket → List Schema
+schemas_of ticket = schemas_held (option_to_list ticket.target ++ ticket.sources)
 
 -- ---- starts
 
@@ -78,7 +75,7 @@ GivesTicket new session index statement _ = ⊤
 
 -- a statement that begins is not refused for its columns and kinds over the tables that its ticket holds
 abbrev pub BeginsTyped : Statement → Started → Type 0
-BeginsTyped statement (started.Ticket ticket) = typing_refusal (schemas_held ticket) statement ≡ None
+BeginsTyped statement (started.Ticket ticket) = typing_refusal (schemas_of ticket) statement ≡ None
 BeginsTyped statement _ = ⊤
 
 -- a query that begins holds one table, from which it reads

@@ -6,8 +6,8 @@ ghost use Rattle.tt_catalog.specs.Changes.{IsBuiltFor, MadeChange, TellsCount};
 use crate::closing::give_up;
 use crate::landing::land;
 use tt_history::{EntryKind, Reply};
-use tt_state_parts::entries::session_entry;
-use tt_state_parts::{Built, Catalog, Ticket};
+use tt_state::entries::session_entry;
+use tt_state::{Built, Catalog, Ticket};
 
 /// Makes the End entry of an open change, with the facts of its parts, which are kept under the next numbers and are in
 /// its table from then on. Its marks end, and it reads no part any more. By now it is an INSERT, which is answered with

@@ -1,13 +1,13 @@
 //! What is kept of a statement that was open, once it has ended.
 
 ghost use Rattle.std.specs.Prelude.{◌≡◌};
-ghost use Rattle.tt_state_parts.specs.Kept.{kept_of};
-ghost use Rattle.tt_state_parts.specs.Moves.{IsReady};
+ghost use Rattle.tt_state.specs.Kept.{kept_of};
+ghost use Rattle.tt_state.specs.Moves.{IsReady};
 ghost use Rattle.tt_catalog.specs.Ends.{pins_without, with_answered, with_given_up, with_released, with_unpinned};
 
 use tt_plain::tally::TallyPin;
 use tt_script::Program;
-use tt_state_parts::State;
+use tt_state::State;
 
 // The pins of all other sessions.
 fn without_session(pins: &mut Vec<TallyPin>, session: u32)

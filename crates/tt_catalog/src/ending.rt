@@ -7,8 +7,8 @@ ghost use Rattle.tt_catalog.specs.Ends.{IsAnswerable, IsOpenTicket, MadeAbandon,
 use crate::closing::{close_query, give_up};
 use std::alloc::Global;
 use tt_history::{EntryKind, Told};
-use tt_state_parts::entries::session_entry;
-use tt_state_parts::{Catalog, Ticket};
+use tt_state::entries::session_entry;
+use tt_state::{Catalog, Ticket};
 use tt_value::Sequence;
 
 // The end of a statement that takes away and adds no part. It takes no memory.

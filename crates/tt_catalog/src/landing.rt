@@ -5,7 +5,7 @@ ghost use Rattle.tt_layout.specs.Chain.{current_of, last_begun};
 ghost use Rattle.tt_layout.specs.Numbers.{HasAll, HasNone, IsAscending};
 ghost use Rattle.tt_partition.specs.Table.{IsPart};
 ghost use Rattle.tt_plain.specs.law.Lists.{Every};
-ghost use Rattle.tt_state_parts.specs.Kept.{kept_of};
+ghost use Rattle.tt_state.specs.Kept.{kept_of};
 ghost use Rattle.tt_catalog.specs.Changes.{facts_from, stored_as, stored_from, table_after, tables_after, with_landed};
 ghost use Rattle.tt_catalog.specs.Landing.{MayBegin, MayLand, added_as, number_as};
 
@@ -13,7 +13,7 @@ use std::alloc::{AllocError, Global};
 use tt_history::Added;
 use tt_layout::PartFacts;
 use tt_partition::Partition;
-use tt_state_parts::{SharedPart, State, StoredPart, TableState};
+use tt_state::{SharedPart, State, StoredPart, TableState};
 use tt_value::Sequence;
 
 // A part under its number, with its first owner.

@@ -2,12 +2,12 @@
 
 ghost use Rattle.std.specs.Prelude.{◌≡◌, Err};
 ghost use Rattle.tt_history.specs.declared.reply.Refusal.TheVariants as refusal;
-ghost use Rattle.tt_state_parts.specs.Chronicle.{IsNextRead};
+ghost use Rattle.tt_state.specs.Chronicle.{IsNextRead};
 ghost use Rattle.tt_catalog.specs.Ends.{MadeRefusal};
 
 use tt_history::{EntryKind, Refusal, Told};
-use tt_state_parts::Catalog;
-use tt_state_parts::entries::session_entry;
+use tt_state::Catalog;
+use tt_state::entries::session_entry;
 
 /// Makes the Start entry of a text that is no statement, or that uses a part which is not carried out yet, for which
 /// place 0 is passed: it is refused at its place. It takes no memory.

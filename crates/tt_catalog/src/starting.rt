@@ -3,10 +3,10 @@
 
 ghost use Rattle.std.specs.Prelude.{◌≡◌, [], ◌∷◌, IfErr, IfOk, Ok, OnOk, length};
 ghost use Rattle.tt_plain.specs.Statements.{InsertsTuples, insertion};
-ghost use Rattle.tt_state_parts.specs.Chronicle.{IsNextRead};
-ghost use Rattle.tt_state_parts.specs.Keeps.{ArePartNumbers};
-ghost use Rattle.tt_state_parts.specs.Kept.{kept_of, numbers_now};
-ghost use Rattle.tt_state_parts.specs.Moves.{IsReady};
+ghost use Rattle.tt_state.specs.Chronicle.{IsNextRead};
+ghost use Rattle.tt_state.specs.Keeps.{ArePartNumbers};
+ghost use Rattle.tt_state.specs.Kept.{kept_of, numbers_now};
+ghost use Rattle.tt_state.specs.Moves.{IsReady};
 ghost use Rattle.tt_sql.specs.declared.statement.Statement.TheVariants as statement;
 ghost use Rattle.tt_catalog.specs.Starts.{HasAllParts, InsertOpens, InsertStays, IsFreeInsert, IsFreeQuery, IsInsertRefusal, IsQueryRefusal, IsStarted, IsTableChanged, IsTableRead, QueryOpens, QueryStays, StartsInsert, StartsQuery, held_empty, held_whole, pin_whole, told_by};
 ghost use Rattle.tt_catalog.specs.Tickets.{BeginsTyped, GivesTicket, HoldsSource, HoldsTarget, MadeStart};
@@ -16,9 +16,9 @@ use tt_history::{EntryKind, Refusal, Told};
 use tt_plain::tally::TallyPin;
 use tt_script::Program;
 use tt_sql::{Insert, Query, Tuple};
-use tt_state_parts::entries::session_entry;
-use tt_state_parts::lookup::share_parts;
-use tt_state_parts::{Catalog, Seen, Started, State, StoredPart, TableState, Ticket};
+use tt_state::entries::session_entry;
+use tt_state::lookup::share_parts;
+use tt_state::{Catalog, Seen, Started, State, StoredPart, TableState, Ticket};
 use tt_typer::{check_query, check_values, table_begin};
 use tt_value::Sequence;
 

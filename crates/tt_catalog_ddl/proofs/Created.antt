@@ -24,10 +24,10 @@ use Rattle.tt_plain.specs.tally.Facts.{facts_of_table}
 use Rattle.tt_plain.specs.tally.Layouts.{layouts_of}
 use Rattle.tt_partition.specs.Cuts.{kinds_of, table_with}
 use Rattle.tt_built.specs.Built.{built}
-use Rattle.tt_state_parts.specs.Keeps.{AreKeptParts, AreNames, AreTrueParts, HasKeptParts, IsTruePart, KeepsTables, is_live_as, schema_of, table_of}
-use Rattle.tt_state_parts.specs.Kept.{Kept}
-use Rattle.tt_state_parts.specs.declared.part.StoredPart.{StoredPart}
-use Rattle.tt_state_parts.specs.declared.state.TableState.{TableState}
+use Rattle.tt_state.specs.Keeps.{AreKeptParts, AreNames, AreTrueParts, HasKeptParts, IsTruePart, KeepsTables, is_live_as, schema_of, table_of}
+use Rattle.tt_state.specs.Kept.{Kept}
+use Rattle.tt_state.specs.declared.part.StoredPart.{StoredPart}
+use Rattle.tt_state.specs.declared.state.TableState.{TableState}
 
 -- ---- one more at the end
 

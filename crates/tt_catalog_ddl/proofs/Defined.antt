@@ -29,19 +29,19 @@ use Rattle.tt_plain.specs.stored.Sessions.{session_at}
 use Rattle.tt_plain.specs.tally.Changes.{MakesTable, TallyChange}
 use Rattle.tt_names.specs.Changes.{bound}
 use Rattle.tt_built.specs.Built.{built}
-use Rattle.tt_state_parts.proofs.Ended.{closed_at, ended_goes, state_is}
-use Rattle.tt_state_parts.proofs.Goes.{GoesOn, alone_now, ended_less, idle_now, same_marks, sessions_now}
-use Rattle.tt_state_parts.proofs.Histories.{contents_same, stands_sound}
-use Rattle.tt_state_parts.proofs.Lookups.{live_tied}
-use Rattle.tt_state_parts.proofs.Refusals.{create_asked, create_is, create_over, create_refusal, plain_create}
-use Rattle.tt_state_parts.proofs.Steps.{define_done, define_refused, define_starved, define_step}
-use Rattle.tt_state_parts.proofs.TrueFacts.{IsTrueEntry, adds_no_part}
-use Rattle.tt_state_parts.proofs.Turns.{IsNext, is_next, said_built}
-use Rattle.tt_state_parts.specs.Chronicle.{Chronicle, IsNextRead, entry_at, rows_of, store_of}
-use Rattle.tt_state_parts.specs.Keeps.{KeepsTables, StandsFor, is_live_as, table_of}
-use Rattle.tt_state_parts.specs.Kept.{Kept}
-use Rattle.tt_state_parts.specs.Moves.{with_ended}
-use Rattle.tt_state_parts.specs.declared.state.TableState.{TableState}
+use Rattle.tt_state.proofs.Ended.{closed_at, ended_goes, state_is}
+use Rattle.tt_state.proofs.Goes.{GoesOn, alone_now, ended_less, idle_now, same_marks, sessions_now}
+use Rattle.tt_state.proofs.Histories.{contents_same, stands_sound}
+use Rattle.tt_state.proofs.Lookups.{live_tied}
+use Rattle.tt_state.proofs.Refusals.{create_asked, create_is, create_over, create_refusal, plain_create}
+use Rattle.tt_state.proofs.Steps.{define_done, define_refused, define_starved, define_step}
+use Rattle.tt_state.proofs.TrueFacts.{IsTrueEntry, adds_no_part}
+use Rattle.tt_state.proofs.Turns.{IsNext, is_next, said_built}
+use Rattle.tt_state.specs.Chronicle.{Chronicle, IsNextRead, entry_at, rows_of, store_of}
+use Rattle.tt_state.specs.Keeps.{KeepsTables, StandsFor, is_live_as, table_of}
+use Rattle.tt_state.specs.Kept.{Kept}
+use Rattle.tt_state.specs.Moves.{with_ended}
+use Rattle.tt_state.specs.declared.state.TableState.{TableState}
 use Rattle.tt_history.specs.declared.history.EntryKind.TheVariants as kind
 use Rattle.tt_history.specs.declared.history.Told.TheVariants as told
 use Rattle.tt_history.specs.declared.reply.Reply.TheVariants as reply

@@ -18,14 +18,14 @@ use Rattle.tt_plain.proofs.law.session.Views.{is_table}
 use Rattle.tt_plain.specs.TypingRefusal.{typing_refusal}
 use Rattle.tt_plain.specs.declared.store.PlainTable.{PlainTable}
 use Rattle.tt_built.specs.Built.{built}
-use Rattle.tt_state_parts.proofs.Histories.{early, stands_sound}
-use Rattle.tt_state_parts.proofs.Lookups.{found_at, number_tied}
-use Rattle.tt_state_parts.proofs.Owed.{few_statements}
-use Rattle.tt_state_parts.specs.Chronicle.{Chronicle, rows_of, store_of}
-use Rattle.tt_state_parts.specs.Keeps.{StandsFor, is_live_as, table_of}
-use Rattle.tt_state_parts.specs.Kept.{Kept, table_kept}
-use Rattle.tt_state_parts.specs.Moves.{IsReady}
-use Rattle.tt_state_parts.specs.declared.state.TableState.{TableState}
+use Rattle.tt_state.proofs.Histories.{early, stands_sound}
+use Rattle.tt_state.proofs.Lookups.{found_at, number_tied}
+use Rattle.tt_state.proofs.Owed.{few_statements}
+use Rattle.tt_state.specs.Chronicle.{Chronicle, rows_of, store_of}
+use Rattle.tt_state.specs.Keeps.{StandsFor, is_live_as, table_of}
+use Rattle.tt_state.specs.Kept.{Kept, table_kept}
+use Rattle.tt_state.specs.Moves.{IsReady}
+use Rattle.tt_state.specs.declared.state.TableState.{TableState}
 use Rattle.tt_history.specs.declared.history.Told.TheVariants as told
 use Rattle.tt_catalog_ddl.specs.Creates.{CarriesOut, Creates, NamesAreKnown, refusal_beside}
 

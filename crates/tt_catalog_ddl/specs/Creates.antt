@@ -13,9 +13,9 @@ use Rattle.tt_retain.specs.Retention.{first_retention}
 use Rattle.tt_plain.specs.Places.{table_begin}
 use Rattle.tt_plain.specs.TypingRefusal.{typing_refusal}
 use Rattle.tt_plain.specs.definition.Create.{schema_made}
-use Rattle.tt_state_parts.specs.Chronicle.{Chronicle, MadeEntry, entry_at, store_of}
-use Rattle.tt_state_parts.specs.Kept.{Kept, live_kept}
-use Rattle.tt_state_parts.specs.declared.state.TableState.{TableState}
+use Rattle.tt_state.specs.Chronicle.{Chronicle, MadeEntry, entry_at, store_of}
+use Rattle.tt_state.specs.Kept.{Kept, live_kept}
+use Rattle.tt_state.specs.declared.state.TableState.{TableState}
 use Rattle.tt_history.specs.declared.history.EntryKind.TheVariants as kind
 use Rattle.tt_history.specs.declared.history.Told.TheVariants as told
 use Rattle.tt_history.specs.declared.reply.Refusal.TheVariants as refusal

@@ -4,8 +4,8 @@ ghost use Rattle.std.specs.Prelude.{◌≡◌, ◌+◌, ◌<◌, ◌^◌, Ok, le
 ghost use Rattle.tt_plain.specs.asked.Request.{request_in};
 ghost use Rattle.tt_plain.specs.history.Replies.{is_definition};
 ghost use Rattle.tt_built.specs.Built.{is_built};
-ghost use Rattle.tt_state_parts.specs.Kept.{kept_of};
-ghost use Rattle.tt_state_parts.specs.Chronicle.{IsNextRead};
+ghost use Rattle.tt_state.specs.Kept.{kept_of};
+ghost use Rattle.tt_state.specs.Chronicle.{IsNextRead};
 ghost use Rattle.tt_sql.specs.declared.statement.Statement.TheVariants as tree;
 ghost use Rattle.tt_catalog_ddl.specs.Creates.{CarriesOut, MadeDefine, NamesAreKnown, refusal_kept};
 
@@ -13,8 +13,8 @@ use crate::making::add_table;
 use std::alloc::AllocError;
 use tt_history::{EntryKind, Refusal, Reply, Told};
 use tt_sql::{CreatedTable, Statement};
-use tt_state_parts::entries::session_entry;
-use tt_state_parts::{Catalog, State};
+use tt_state::entries::session_entry;
+use tt_state::{Catalog, State};
 use tt_typer::{check, table_begin};
 
 // Why a CREATE TABLE is refused.

@@ -4,14 +4,14 @@ ghost use Rattle.std.specs.Prelude.{◌≡◌, [], ◌∷◌, ◌+◌, ◌<◌, 
 ghost use Rattle.tt_plain.specs.definition.Create.{column_made, schema_made};
 ghost use Rattle.tt_retain.specs.Retention.{first_retention};
 ghost use Rattle.tt_names.specs.Registry.{IsFree};
-ghost use Rattle.tt_state_parts.specs.Kept.{kept_of};
+ghost use Rattle.tt_state.specs.Kept.{kept_of};
 ghost use Rattle.tt_catalog_ddl.specs.Creates.{facts_made, table_made, with_made, with_table};
 
 use std::alloc::{AllocError, Global};
 use tt_layout::{Layouts, TableFacts};
 use tt_retain::Regimes;
 use tt_sql::{ColumnDefinition, CreatedTable};
-use tt_state_parts::{State, TableState};
+use tt_state::{State, TableState};
 use tt_value::{Column, Schema, Sequence};
 
 fn make_column(definition: &ColumnDefinition) -> Result<Column, AllocError>

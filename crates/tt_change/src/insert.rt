@@ -12,7 +12,7 @@ use crate::tuples::tuple_rows;
 use std::alloc::{AllocError, Global};
 use tt_partition::Partition;
 use tt_sql::{Insert, Tuple};
-use tt_state_parts::Built;
+use tt_state::Built;
 use tt_value::{Row, Schema, Sequence};
 
 // These rows as parts that come, each row counted.

@@ -14,7 +14,8 @@ use Rattle.tt_plain.proofs.Tests.{same_number, same_test}
 use Rattle.tt_plain.proofs.law.Clock.{replay_none, replies_stand}
 use Rattle.tt_plain.proofs.law.Gives.{Gives, gives_at, gives_bind, gives_or, gives_tested}
 use Rattle.tt_plain.proofs.law.Turns.{due_gives, next_gives, open_gives}
-use Rattle.tt_plain.specs.Answers.{only_if, ◌>>=◌}
+use Rattle.tt_script.specs.Lines.{only_if}
+use Rattle.tt_plain.specs.Answers.{◌>>=◌}
 use Rattle.tt_plain.specs.asked.Asked.{Asked}
 use Rattle.tt_plain.specs.asked.Carried.{Carried}
 use Rattle.tt_plain.specs.asked.Request.{Commits, Defines, Request, request_of}

@@ -1,6 +1,6 @@
 -- The columns of tables are found by their names, since no two columns of a table have one name.
-use Rattle.std.proofs.Common.{◌≡◌, ℕ, zero, suc, ◌≤◌, Bool, true, false, List, [], ◌∷◌, ◌++◌, length, map, take, drop, Some, None, refl, sym, ap, ◌∙◌, subst, arith}
-use Rattle.std.specs.Prelude.{slice_get, slice_set, if◌then◌else◌}
+use Rattle.std.proofs.Common.{◌≡◌, ℕ, zero, suc, ◌≤◌, Bool, true, false, List, [], ◌∷◌, length, map, take, drop, Some, None, refl, sym, ap, ◌∙◌, subst, arith}
+use Rattle.std.specs.Prelude.{slice_get, if◌then◌else◌}
 use Rattle.std.specs.List.{position}
 use Rattle.std.specs.Str.{bytes_eq}
 use Rattle.std.proofs.lemmas.Option.{none-some, same_Some}
@@ -8,16 +8,9 @@ use Rattle.std.proofs.lemmas.List.{take_all, length-drop}
 use Rattle.tt_value.specs.declared.value.Column.{Column}
 use Rattle.tt_value.specs.declared.name.Name.{Name}
 use Rattle.tt_sql.specs.declared.table.ColumnDefinition.{ColumnDefinition}
-use Rattle.tt_sql.specs.declared.table.CreatedTable.{CreatedTable}
-use Rattle.tt_sql.specs.declared.statement.Statement.TheVariants as statement
-use Rattle.tt_plain.specs.declared.plain.PlainTable.{PlainTable}
 use Rattle.tt_plain.specs.WrongCounts.{is_name, mention, mentions, defined_again, defined_names, places_of, miscounted_columns}
-use Rattle.tt_plain.specs.CreateTable.{column_made, schema_made}
-use Rattle.tt_plain.specs.Refusals.{refusal_over}
+use Rattle.tt_plain.specs.definition.Create.{column_made}
 use Rattle.tt_plain.proofs.Lists.{nil_both, same_itself, position_here, position_later}
-use Rattle.tt_plain.specs.SoundStore.{HaveNamedColumns}
-use Rattle.tt_plain.specs.ValueKinds.{IsFoundByName}
-use Rattle.tt_plain.proofs.Typing.{free_is_typed}
 
 -- ---- the columns of a CREATE TABLE that is not refused
 
@@ -51,23 +44,3 @@ named_once names none =
     let both = nil_both (defined_again (take 32 names)) (places_of (drop 32 names)) none in
     let short : length names ≤ 32 = omega (arith, length-drop 32 names, no_places (drop 32 names) both.1) in
     sym (ap defined_again (take_all 32 names short)) ∙ both.0
-
-pub made_by_name : (tables : List PlainTable) (create : CreatedTable) → refusal_over tables (statement.Create create) ≡ None → IsFoundByName (schema_made create.columns)
-made_by_name tables create free =
-    found_made create.columns (named_once (defined_names create.columns) (free_is_typed tables (statement.Create create) free).counts)
-
--- ---- tables
-
-pub named-push : (tables : List PlainTable) (table : PlainTable) → HaveNamedColumns tables → IsFoundByName table.schema → HaveNamedColumns (tables ++ table ∷ [])
-named-push [] table all here = (here, tt)
-named-push (first ∷ tables) table all here = (all.0, named-push tables table all.1 here)
-
-pub named-set : (tables : List PlainTable) (place : ℕ) (old new : PlainTable) → HaveNamedColumns tables → slice_get tables place ≡ Some old → new.schema ≡ old.schema → HaveNamedColumns (slice_set tables place new)
-named-set [] place old new all s e = all
-named-set (first ∷ tables) zero old new all s e = (subst IsFoundByName (ap (λ (t : PlainTable). t.schema) (same_Some first old s) ∙ sym e) all.0, all.1)
-named-set (first ∷ tables) (suc place) old new all s e = (all.0, named-set tables place old new all.1 s e)
-
-pub named_at : (tables : List PlainTable) (place : ℕ) (table : PlainTable) → HaveNamedColumns tables → slice_get tables place ≡ Some table → IsFoundByName table.schema
-named_at [] place table all s = absurd (none-some table s)
-named_at (first ∷ tables) zero table all s = subst (λ (t : PlainTable). IsFoundByName t.schema) (same_Some first table s) all.0
-named_at (first ∷ tables) (suc place) table all s = named_at tables place table all.1 s

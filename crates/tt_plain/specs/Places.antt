@@ -3,8 +3,6 @@ use Rattle.std.specs.Prelude.{ℕ, ◌+◌, min, List, [], ◌∷◌, ◌++◌, 
 use Rattle.tt_value.specs.declared.name.Name.{Name}
 use Rattle.tt_value.specs.declared.name.ColumnName.{ColumnName}
 use Rattle.tt_value.specs.declared.name.TableName.{TableName}
-use Rattle.tt_value.specs.declared.predicate.Operand.{Operand}
-use Rattle.tt_value.specs.declared.predicate.Operand.TheVariants as operand
 
 abbrev pub earlier : Option ℕ → Option ℕ → Option ℕ
 earlier None b = b
@@ -46,7 +44,3 @@ column_begin c = name_begin c.table c.name.place
 
 abbrev pub table_begin : TableName → ℕ
 table_begin table = name_begin table.schema table.name.place
-
-abbrev pub operand_begin : Operand → ℕ
-operand_begin (operand.Column c) = column_begin c
-operand_begin (operand.Literal l) = l.place

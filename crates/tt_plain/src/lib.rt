@@ -1,11 +1,7 @@
 //! The plain store: its types, and its rules as definitions.
 #![tactic(auto)]
 
-pub mod laws;
-pub mod plain;
 pub mod ranges;
 pub mod store;
 pub mod store_laws;
 pub mod tally;
-
-pub use plain::{Plain, PlainOpen, PlainSession, PlainTable, Version};

@@ -16,9 +16,10 @@ use Rattle.tt_plain.specs.Places.{each, if_there}
 use Rattle.tt_plain.specs.UnknownColumns.{unknown_in_predicate, unknown_in_query, unknown_in_selection, unknown_name, unknown_in_key}
 use Rattle.tt_typer.proofs.KindLaws.{nil_parts}
 use Rattle.tt_typer.proofs.OneTable.{one_scope, columns_in_one}
-use Rattle.tt_state_parts.specs.declared.ticket.Seen.{Seen}
+use Rattle.tt_state.specs.declared.ticket.Seen.{Seen}
 use Rattle.tt_scope.specs.Places.{HasPlaces}
-use Rattle.tt_scan.specs.Held.{rows_held, rows_taken}
+use Rattle.tt_state.specs.Held.{rows_held}
+use Rattle.tt_scan.specs.Held.{rows_taken}
 use Rattle.tt_scan.proofs.Names.{same_takes}
 use Rattle.tt_query.specs.Answer.{IsOver, answer_from}
 

@@ -10,8 +10,9 @@ use Rattle.tt_value.specs.values.RowText.{IsPrintable}
 use Rattle.tt_sql.specs.declared.query.Query.{Query}
 use Rattle.tt_sql.specs.meaning.Scopes.{query_scope}
 use Rattle.tt_built.specs.Built.{is_plain_query}
-use Rattle.tt_state_parts.specs.declared.ticket.Seen.{Seen}
-use Rattle.tt_scan.specs.Held.{rows_held, rows_taken}
+use Rattle.tt_state.specs.declared.ticket.Seen.{Seen}
+use Rattle.tt_state.specs.Held.{rows_held}
+use Rattle.tt_scan.specs.Held.{rows_taken}
 use Rattle.tt_query.specs.Answer.{answer_from}
 use Rattle.tt_query.proofs.Whole.{all_taken, is_whole, whole_answer}
 

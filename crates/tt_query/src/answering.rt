@@ -12,7 +12,7 @@ use tt_agg::{AggregateError, select};
 use tt_order::arrange;
 use tt_scan::scan;
 use tt_sql::Query;
-use tt_state_parts::{Seen, Ticket};
+use tt_state::{Seen, Ticket};
 use tt_value::{Row, Schema};
 
 /// The answer of a query over the rows of the one table that its ticket holds, in its order and cut at its limit. It is out

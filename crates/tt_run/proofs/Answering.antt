@@ -19,12 +19,13 @@ use Rattle.tt_plain.specs.declared.store.PlainOpen.{PlainOpen}
 use Rattle.tt_plain.specs.declared.tally.TallyPin.{TallyPin}
 use Rattle.tt_plain.specs.meaning.Outcome.{answer_seen, rows_read as rows_seen, schemas_read}
 use Rattle.tt_built.specs.Built.{is_plain_query}
-use Rattle.tt_state_parts.specs.Chronicle.{Chronicle, IsOpenRead, store_of}
-use Rattle.tt_state_parts.specs.declared.ticket.Seen.{Seen}
-use Rattle.tt_state_parts.specs.declared.ticket.Ticket.{Ticket}
+use Rattle.tt_state.specs.Chronicle.{Chronicle, IsOpenRead, store_of}
+use Rattle.tt_state.specs.declared.ticket.Seen.{Seen}
+use Rattle.tt_state.specs.declared.ticket.Ticket.{Ticket}
 use Rattle.tt_catalog.specs.Ends.{IsAnswered}
-use Rattle.tt_catalog.specs.Tickets.{IsHeld, IsTicketOf, StandsForRows, part_of, rows_held}
-use Rattle.tt_query.specs.Answer.{IsOverOneTable, answer_held, rows_read, schemas_held}
+use Rattle.tt_state.specs.Held.{rows_held, schemas_held}
+use Rattle.tt_catalog.specs.Tickets.{IsHeld, IsTicketOf, StandsForRows, part_of}
+use Rattle.tt_query.specs.Answer.{IsOverOneTable, answer_held, rows_of_first}
 use Rattle.tt_scan.specs.Held.{IsOfItsSchema}
 use Rattle.tt_sql.specs.declared.statement.Statement.TheVariants as tree
 use Rattle.tt_query.proofs.Whole.{is_whole, knows_names, same_answer, whole_answer}
@@ -40,9 +41,10 @@ pub held_fits : (chronicle : Chronicle) (pins : List TallyPin) (sources : List S
 held_fits chronicle [] [] held = tt
 held_fits chronicle [] (seen ∷ sources) held = absurd held
 held_fits chronicle (pin ∷ pins) [] held = absurd held
-held_fits chronicle (pin ∷ pins) (seen ∷ sources) held =
-    (subst (AllByRecursion (λ (part : ℕ × Table). part.1.kinds ≡ kinds_of seen.schema)) (sym held.0.parts) (of_kinds chronicle seen.schema pin.parts),
-    held_fits chronicle pins sources held.1)
+held_fits chronicle (pin ∷ pins) (seen ∷ sources) held = (
+  subst (AllByRecursion (λ (part : ℕ × Table). part.1.kinds ≡ kinds_of seen.schema)) (sym held.0.parts) (of_kinds chronicle seen.schema pin.parts),
+  held_fits chronicle pins sources held.1,
+)
 
 -- a ticket that holds one table is enough for its query
 pub is_over : (chronicle : Chronicle) (ticket : Ticket) (query : Query) (held : Seen) → is_plain_query query ≡ true → IsTicketOf chronicle ticket (tree.Query query) → ticket.sources ≡ held ∷ [] → IsReading ticket query
@@ -61,9 +63,9 @@ is_over chronicle ticket query held plain is one = record {
 -- the answer is never out of range
 pub in_range : (ticket : Ticket) (query : Query) → IsReading ticket query → answer_held ticket.sources query ≡ None → ⊥
 in_range ticket query reads none =
-    none-some (bag_of (rows_read ticket.sources)) (sym none ∙ whole_answer (query_scope (schemas_held ticket.sources) query) query (rows_read ticket.sources) (is_whole query reads.plain))
+    none-some (bag_of (rows_of_first ticket.sources)) (sym none ∙ whole_answer (query_scope (schemas_held ticket.sources) query) query (rows_of_first ticket.sources) (is_whole query reads.plain))
 
-same_rows : (seen : List (ℕ × List Row)) (sources : List Seen) → AllZip StandsForRows seen sources → bag_of (rows_read sources) ≡ rows_seen seen
+same_rows : (seen : List (ℕ × List Row)) (sources : List Seen) → AllZip StandsForRows seen sources → bag_of (rows_of_first sources) ≡ rows_seen seen
 same_rows [] [] stands = refl
 same_rows [] (held ∷ sources) stands = absurd stands
 same_rows (s ∷ seen) [] stands = absurd stands
@@ -76,7 +78,7 @@ is_answered chronicle ticket query rows reads is answer = record {
   seen = is.seen;
   is_open = is.is_open;
   answer =
-      same_answer (query_scope (schemas_held ticket.sources) query) (query_scope (schemas_read (store_of chronicle) is.seen.sources) query) query (rows_read ticket.sources) (rows_seen is.seen.sources) (is_whole query reads.plain)
+      same_answer (query_scope (schemas_held ticket.sources) query) (query_scope (schemas_read (store_of chronicle) is.seen.sources) query) query (rows_of_first ticket.sources) (rows_seen is.seen.sources) (is_whole query reads.plain)
       (same_rows is.seen.sources ticket.sources is.bags)
       ∙ answer;
 }

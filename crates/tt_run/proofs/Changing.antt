@@ -33,14 +33,14 @@ use Rattle.tt_plain.specs.law.Sound.{IsSound}
 use Rattle.tt_plain.specs.meaning.Outcome.{Does, Outcome, change_outcome, change_seen, outcome_of, rows_read, schema_numbered, schemas_read}
 use Rattle.tt_plain.specs.stored.Tables.{table_numbered}
 use Rattle.tt_built.specs.Built.{built}
-use Rattle.tt_state_parts.proofs.Histories.{in_time, stands_sound, store_is}
-use Rattle.tt_state_parts.proofs.Turns.{is_open}
-use Rattle.tt_state_parts.specs.Chronicle.{Chronicle, IsOpenRead, rows_of, store_of}
-use Rattle.tt_state_parts.specs.declared.ticket.Built.{Built}
-use Rattle.tt_state_parts.specs.declared.ticket.Seen.{Seen}
-use Rattle.tt_state_parts.specs.declared.ticket.Ticket.{Ticket}
+use Rattle.tt_state.proofs.Histories.{in_time, stands_sound, store_is}
+use Rattle.tt_state.proofs.Turns.{is_open}
+use Rattle.tt_state.specs.Chronicle.{Chronicle, IsOpenRead, rows_of, store_of}
+use Rattle.tt_state.specs.declared.ticket.Built.{Built}
+use Rattle.tt_state.specs.declared.ticket.Seen.{Seen}
+use Rattle.tt_state.specs.declared.ticket.Ticket.{Ticket}
 use Rattle.tt_catalog.specs.Changes.{IsBuiltFor, change_asked}
-use Rattle.tt_catalog.specs.Tickets.{HasTarget, IsTargetOf, IsTicketOf, schemas_held}
+use Rattle.tt_catalog.specs.Tickets.{HasTarget, IsTargetOf, IsTicketOf, schemas_of}
 use Rattle.tt_change.specs.Accepted.{IsAccepted}
 use Rattle.tt_change.specs.Builds.{PutsIn}
 use Rattle.tt_schema_laws.proofs.Columns.{legal_columns}
@@ -75,7 +75,7 @@ target_is chronicle None (Some other) held is has = absurd has
 target_is chronicle (Some s) (Some other) held is has = (s, refl, subst (IsTargetOf chronicle s) (same_Some other held is) has)
 
 -- the ticket of an INSERT that has begun holds its target alone
-pub is_writing : (ticket : Ticket) (insert : Insert) (held : Seen) → ticket.sources ≡ [] → ticket.target ≡ Some held → typing_refusal (schemas_held ticket) (insertion insert) ≡ None → IsWriting ticket insert
+pub is_writing : (ticket : Ticket) (insert : Insert) (held : Seen) → ticket.sources ≡ [] → ticket.target ≡ Some held → typing_refusal (schemas_of ticket) (insertion insert) ≡ None → IsWriting ticket insert
 is_writing ticket insert held none is typed = record {
   held = held;
   target = is;

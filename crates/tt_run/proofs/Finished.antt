@@ -13,8 +13,8 @@ use Rattle.tt_plain.specs.law.Bag.{BagsAreFormed}
 use Rattle.tt_plain.specs.serial.Order.{IsSerialOrder}
 use Rattle.tt_plain_laws.proofs.entry.Histories.{legal_bags}
 use Rattle.tt_built.specs.Built.{built}
-use Rattle.tt_state_parts.proofs.Histories.{in_time, stands_sound, store_is}
-use Rattle.tt_state_parts.specs.Chronicle.{Chronicle, rows_of, store_of}
+use Rattle.tt_state.proofs.Histories.{in_time, stands_sound, store_is}
+use Rattle.tt_state.specs.Chronicle.{Chronicle, rows_of, store_of}
 use Rattle.tt_plain.specs.text.Transcript.{transcript_of}
 use Rattle.tt_journal.specs.Transcript.{AreReplies, IsTranscript as HasText}
 use Rattle.tt_run.proofs.Kept.{rows_stay}

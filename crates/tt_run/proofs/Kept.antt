@@ -29,8 +29,7 @@ module _ (program : Script) where
   contents_grow : (contents : List (List Row)) (store : Plain) (later : List Entry) → (added : List (List Row)) × (fold (contents_with built program) contents (pairs_from built program store later) ≡ contents ++ added)
   contents_grow contents store [] = ([], sym (append_nil contents))
   contents_grow contents store (entry ∷ later) =
-      let behind = contents_grow (contents_with built program contents (store, entry)) (next_store built program store entry) later in
-      (
+      let behind = contents_grow (contents_with built program contents (store, entry)) (next_store built program store entry) later in (
         pieces_of contents store entry ++ behind.0,
         behind.1 ∙ ap (λ (c : List (List Row)). c ++ behind.0) (one_grows contents store entry) ∙ append_assoc contents (pieces_of contents store entry) behind.0,
       )
@@ -43,10 +42,9 @@ module _ (program : Script) where
   unfolding contents_of pairs_of
   rows_stay before later =
       let front = fold (contents_with built program) [] (pairs_from built program (empty_store program) before) in
-      let grown = contents_grow front (fold (next_store built program) (empty_store program) before) later in
-      (
+      let grown = contents_grow front (fold (next_store built program) (empty_store program) before) later in (
         grown.0,
         ap (fold (contents_with built program) []) (pairs_behind (empty_store program) before later)
-        ∙ fold-append (contents_with built program) [] (pairs_from built program (empty_store program) before) (pairs_from built program (fold (next_store built program) (empty_store program) before) later)
-        ∙ grown.1,
+            ∙ fold-append (contents_with built program) [] (pairs_from built program (empty_store program) before) (pairs_from built program (fold (next_store built program) (empty_store program) before) later)
+            ∙ grown.1,
       )

@@ -17,7 +17,8 @@ use Rattle.tt_sql.specs.declared.statement.Statement.{Statement}
 use Rattle.tt_plain.proofs.Answers.{bind_some, map_some}
 use Rattle.tt_plain.proofs.law.Gives.{Gives, gives_at, gives_bind, gives_if, gives_map, gives_tested, gives_when}
 use Rattle.tt_plain.proofs.law.Turns.{IsTurn, due_gives, next_gives, open_gives}
-use Rattle.tt_plain.specs.Answers.{only_if, ◌>>=◌}
+use Rattle.tt_script.specs.Lines.{only_if}
+use Rattle.tt_plain.specs.Answers.{◌>>=◌}
 use Rattle.tt_plain.specs.asked.Asked.{Asked, request_asked, state_asked, table_asked}
 use Rattle.tt_plain.specs.asked.Request.{Defines, Reads, Request, Writes}
 use Rattle.tt_plain.specs.asked.Turns.{asked_with}
@@ -222,8 +223,8 @@ module _ (program : Script) (store : Plain) (session index : ℕ) where
       let found = map_some (λ (effect : Effect). (applied store effect, effect.reply)) (session_entry built program store session index k >>= λ effect. only_if (effect.moment == entry.moment) effect) (new, reply) step in
       let effect = bind_some (session_entry built program store session index k) (λ effect. only_if (effect.moment == entry.moment) effect) found.0 found.1 in
       let left = gives_at Left (session_entry built program store session index k >>= λ effect. only_if (effect.moment == entry.moment) effect) found.0
-          (gives_bind Left (session_entry built program store session index k) _ (λ x e. gives_when Left (x.moment == entry.moment) x (λ test. gives_at Left (session_entry built program store session index k) x (entry_left k single) e)))
-          found.1 in
+      (gives_bind Left (session_entry built program store session index k) _ (λ x e. gives_when Left (x.moment == entry.moment) x (λ test. gives_at Left (session_entry built program store session index k) x (entry_left k single) e)))
+      found.1 in
       record {
         before = left.before;
         there = left.there;

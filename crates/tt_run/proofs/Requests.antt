@@ -1,17 +1,9 @@
 -- A statement is known by what it asks for, and which are not carried out.
-use Rattle.std.proofs.Common.{◌≡◌, ℕ, Bool, true, false, Result, Ok, Err, refl, sym}
-use Rattle.std.proofs.Common.{◌∙◌, ap}
-use Rattle.std.specs.Prelude.{if◌then◌else◌, is_none, length, not, ◌&&◌, ◌==◌}
-use Rattle.std.proofs.lemmas.Bool.{and_parts}
+use Rattle.std.proofs.Common.{◌≡◌, ◌∙◌, ℕ, Bool, true, false, Result, Ok, Err, refl, sym}
+use Rattle.std.specs.Prelude.{if◌then◌else◌}
 use Rattle.tt_value.specs.declared.name.TableName.{TableName}
-use Rattle.tt_sql.specs.declared.query.Selection.{Selection}
-use Rattle.tt_sql.specs.declared.query.Selection.TheVariants as selection
 use Rattle.tt_sql.specs.declared.table.Change.{Change}
 use Rattle.tt_sql.specs.declared.table.Change.TheVariants as changes
-use Rattle.tt_sql.specs.declared.table.TableKind.{TableKind}
-use Rattle.tt_sql.specs.declared.table.TableKind.TheVariants as kinds
-use Rattle.tt_sql.specs.trees.Built as plain
-use Rattle.tt_plain.specs.asked.Reach.{is_star, is_whole_table}
 use Rattle.std.proofs.lemmas.Bool.{false≢true}
 use Rattle.tt_sql.specs.declared.change.Dml.{Dml}
 use Rattle.tt_sql.specs.declared.change.Dml.TheVariants as dml
@@ -24,7 +16,7 @@ use Rattle.tt_sql.specs.declared.statement.Statement.TheVariants as statement
 use Rattle.tt_sql.specs.declared.table.CreatedTable.{CreatedTable}
 use Rattle.tt_plain.specs.asked.Turns.{carried_out}
 use Rattle.tt_built.proofs.Reaches.{create_built, insert_built, query_built, statements_built}
-use Rattle.tt_built.specs.Built.{built, has_values, is_built, is_permanent, is_plain_create, is_plain_query}
+use Rattle.tt_built.specs.Built.{built, has_values, is_built, is_plain_create, is_plain_query}
 
 -- ---- what is carried out, and what is not
 
@@ -42,39 +34,7 @@ is_carried_out s e = kept_if (built.statements s) s (statements_built s ∙ e)
 is_left : (s : Statement) → is_built s ≡ false → carried_out built (Ok s) ≡ Err 0
 is_left s e = left_if (built.statements s) s (statements_built s ∙ e)
 
--- ---- queries, and their tests
-
-flipped : (a b : Bool) → (a ≡ true → b ≡ true) → (b ≡ true → a ≡ true) → a ≡ b
-flipped true b there back = sym (there refl)
-flipped false true there back = back refl
-flipped false false there back = refl
-
-same_star : (s : Selection) → plain.is_star s ≡ is_star s
-same_star (selection.All place) = refl
-same_star (selection.Listed items) = refl
-
-plain_parts : (q : Query) → plain.is_plain_query q ≡ true → is_plain_query q ≡ true
-plain_parts q e =
-    let front = and_parts (plain.is_star q.selection && plain.reads_whole_table q) (plain.ends_behind_rows q) e in
-    let parts = and_parts (plain.is_star q.selection) (plain.reads_whole_table q) front.0 in
-    let filter = and_parts (is_none q.first.clause && length q.joins == 0) (is_none q.filter) parts.1 in
-    let sources = and_parts (is_none q.first.clause) (length q.joins == 0) filter.0 in
-    let behind = and_parts (length q.group == 0 && length q.order == 0) (is_none q.limit) front.1 in
-    let lists = and_parts (length q.group == 0) (length q.order == 0) behind.0 in
-    rw (sym (same_star q.selection), parts.0, filter.1, sources.1, lists.0, lists.1, behind.1, sources.0) refl
-
-plain_back : (q : Query) → is_plain_query q ≡ true → plain.is_plain_query q ≡ true
-plain_back q e =
-    let whole = and_parts (is_whole_table q) (is_none q.first.clause) e in
-    let behind = and_parts (is_star q.selection && is_none q.filter && (length q.joins == 0 && length q.group == 0)) (length q.order == 0 && is_none q.limit) whole.0 in
-    let lists = and_parts (is_star q.selection && is_none q.filter) (length q.joins == 0 && length q.group == 0) behind.0 in
-    let front = and_parts (is_star q.selection) (is_none q.filter) lists.0 in
-    let groups = and_parts (length q.joins == 0) (length q.group == 0) lists.1 in
-    let last = and_parts (length q.order == 0) (is_none q.limit) behind.1 in
-    rw (same_star q.selection, front.0, front.1, groups.0, groups.1, last.0, last.1, whole.1) refl
-
-pub same_query : (q : Query) → plain.is_plain_query q ≡ is_plain_query q
-same_query q = flipped (plain.is_plain_query q) (is_plain_query q) (plain_parts q) (plain_back q)
+-- ---- queries
 
 pub query_runs : (q : Query) → is_plain_query q ≡ true → carried_out built (Ok (statement.Query q)) ≡ Ok (statement.Query q)
 query_runs q e = is_carried_out (statement.Query q) (query_built q ∙ e)
@@ -83,26 +43,6 @@ pub query_left : (q : Query) → is_plain_query q ≡ false → carried_out buil
 query_left q e = is_left (statement.Query q) (query_built q ∙ e)
 
 -- ---- definitions
-
-same_kind : (k : TableKind) → plain.is_permanent k ≡ is_permanent k
-same_kind kinds.Permanent = refl
-same_kind kinds.Transient = refl
-same_kind kinds.Temporary = refl
-
-last_two : (a b c : Bool) → (a && b && c) ≡ (a && c && b)
-last_two true true true = refl
-last_two true true false = refl
-last_two true false true = refl
-last_two true false false = refl
-last_two false true true = refl
-last_two false true false = refl
-last_two false false true = refl
-last_two false false false = refl
-
-pub same_create : (c : CreatedTable) → plain.is_plain_create c ≡ is_plain_create c
-same_create c =
-    last_two (not c.replaces && plain.is_permanent c.kind) (is_none c.options.cluster_by) (is_none c.options.retention)
-    ∙ ap (λ k. not c.replaces && k && is_none c.options.retention && is_none c.options.cluster_by) (same_kind c.kind)
 
 pub create_runs : (c : CreatedTable) → is_plain_create c ≡ true → carried_out built (Ok (statement.Create c)) ≡ Ok (statement.Create c)
 create_runs c e = is_carried_out (statement.Create c) (create_built c ∙ e)

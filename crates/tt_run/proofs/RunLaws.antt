@@ -18,8 +18,8 @@ use Rattle.tt_plain.specs.stored.Empty.{empty_store}
 use Rattle.tt_plain.specs.stored.Points.{count_in, statement_count}
 use Rattle.tt_plain.specs.stored.Sessions.{new_session, session_at}
 use Rattle.tt_built.specs.Built.{built}
-use Rattle.tt_state_parts.specs.Chronicle.{Chronicle, store_of}
-use Rattle.tt_state_parts.specs.Owed.{statements_in}
+use Rattle.tt_state.specs.Chronicle.{Chronicle, store_of}
+use Rattle.tt_state.specs.Owed.{statements_in}
 use Rattle.tt_run.specs.Sessions.{AreInOrder, HasFinished, IsIdle}
 use Rattle.tt_run.specs.Turns.{AreDone, AreNew, HasReplies, InTurn, KeepsOthers}
 
@@ -74,8 +74,8 @@ idle_finished program store session lines at idle state there =
 pub turn_ends : (program : Script) (book : Chronicle) (session : ℕ) (lines : SessionText) → book.program ≡ program → slice_get program.sessions session ≡ Some lines → InTurn book session → IsIdle (store_of book) session (length lines.statements) → AreInOrder program (session + 1) book.history
 turn_ends program book session lines same at turn idle =
     let finished : is_finished book.program session (session_at (store_of book) session) ≡ true =
-        ap (λ (o : Option PlainSession). is_finished book.program session (unwrap_or o new_session)) idle.there
-        ∙ idle_finished book.program (store_of book) session lines (ap (λ (p : Script). slice_get p.sessions session) same ∙ at) idle idle.state idle.there in
+    ap (λ (o : Option PlainSession). is_finished book.program session (unwrap_or o new_session)) idle.there
+    ∙ idle_finished book.program (store_of book) session lines (ap (λ (p : Script). slice_get p.sessions session) same ∙ at) idle idle.state idle.there in
     let ordered : AreInOrder book.program (suc session) book.history = (turn, finished) in
     let count : suc session ≡ session + 1 = omega arith in
     subst (λ n. AreInOrder program n book.history) count (subst (λ (p : Script). AreInOrder p (suc session) book.history) same ordered)
@@ -126,7 +126,7 @@ done_from program number [] done = refl
 done_from program number (state ∷ states) done =
     let here : is_finished program number state ≡ true = ap (λ n. is_finished program n state) (omega arith) ∙ done 0 state refl in
     let later : list_all (λ found. is_finished program found.0 found.1) (enumerate_from (number + 1) states) ≡ true =
-        done_from program (number + 1) states (λ place other at. ap (λ n. is_finished program n other) (omega arith) ∙ done (suc place) other at) in
+    done_from program (number + 1) states (λ place other at. ap (λ n. is_finished program n other) (omega arith) ∙ done (suc place) other at) in
     rw (here, later) refl
 
 lines_at : (all : List SessionText) (session : ℕ) → session < length all → (lines : SessionText) × (slice_get all session ≡ Some lines)

@@ -12,7 +12,7 @@ use Rattle.tt_sql.specs.text.StatementOf.{statement_of}
 use Rattle.tt_plain.proofs.Answers.{map_some}
 use Rattle.tt_plain.specs.asked.Turns.{carried_out, statement_read}
 use Rattle.tt_built.specs.Built.{built}
-use Rattle.tt_state_parts.specs.Chronicle.{Chronicle, IsNextRead, store_of}
+use Rattle.tt_state.specs.Chronicle.{Chronicle, IsNextRead, store_of}
 use Rattle.tt_run.proofs.TurnsLaws.{idle_next}
 use Rattle.tt_run.specs.Sessions.{IsIdle}
 

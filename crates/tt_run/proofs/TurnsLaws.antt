@@ -7,7 +7,8 @@ use Rattle.tt_history.specs.declared.history.Entry.{Entry}
 use Rattle.tt_history.specs.declared.history.EntryKind.{EntryKind}
 use Rattle.tt_history.specs.declared.reply.Reply.{Reply}
 use Rattle.tt_plain.proofs.Tests.{same_test}
-use Rattle.tt_plain.specs.Answers.{only_if, ◌>>=◌}
+use Rattle.tt_script.specs.Lines.{only_if}
+use Rattle.tt_plain.specs.Answers.{◌>>=◌}
 use Rattle.tt_plain.specs.asked.Turns.{asked_with, is_idle_before, next_asked, statement_read}
 use Rattle.tt_plain.specs.declared.store.Plain.{Plain}
 use Rattle.tt_plain.specs.declared.store.PlainOpen.{PlainOpen}
@@ -18,8 +19,8 @@ use Rattle.tt_plain.specs.law.Lists.{Every}
 use Rattle.tt_plain.specs.stored.Sessions.{new_session, session_at}
 use Rattle.tt_plain.specs.text.Transcript.{given_replies}
 use Rattle.tt_built.specs.Built.{built}
-use Rattle.tt_state_parts.proofs.Histories.{replay_longer, store_is}
-use Rattle.tt_state_parts.specs.Chronicle.{Chronicle, IsNextRead, MadeEntry, entry_at, store_of}
+use Rattle.tt_state.proofs.Histories.{replay_longer, store_is}
+use Rattle.tt_state.specs.Chronicle.{Chronicle, IsNextRead, MadeEntry, entry_at, store_of}
 use Rattle.tt_history.specs.declared.history.Actor.TheVariants as actor
 use Rattle.tt_run.proofs.Left.{alone_behind, idle_behind, others_behind}
 use Rattle.tt_run.specs.Sessions.{AreInOrder, AreOf, IsIdle, IsSingle}
@@ -73,7 +74,7 @@ made_run : (old new : Chronicle) (entry : Entry) (answer : Option Reply) (replie
     → replay_of built new.program new.history ≡ Some (store_of new, has.run.1 ++ answer ∷ [])
 made_run old new entry answer replies made has =
     let here : step_of built old.program has.run.0 entry ≡ Some (store_of new, answer) =
-        ap (λ (s : Plain). step_of built old.program s entry) (sym (store_is built old.program old.history has.run has.replayed)) ∙ made.step in
+    ap (λ (s : Plain). step_of built old.program s entry) (sym (store_is built old.program old.history has.run has.replayed)) ∙ made.step in
     ap (λ (p : Script). replay_of built p new.history) made.same_program
     ∙ ap (λ (h : List Entry). replay_of built old.program h) made.longer
     ∙ replay_longer built old.program old.history entry has.run (store_of new, answer) has.replayed here
@@ -118,7 +119,7 @@ unfolding next_asked
 idle_next book session done read idle said =
     let store = store_of book in
     let test : is_idle_before (done + 1) idle.state ≡ true =
-        ap (λ (o : Option PlainOpen). is_none o && done + 1 == idle.state.done + 1) idle.running ∙ ap (λ n. done + 1 == n + 1) idle.counted ∙ same_test (done + 1) in
+    ap (λ (o : Option PlainOpen). is_none o && done + 1 == idle.state.done + 1) idle.running ∙ ap (λ n. done + 1 == n + 1) idle.counted ∙ same_test (done + 1) in
     ap (λ (o : Option PlainSession). o >>= λ state. only_if (is_idle_before (done + 1) state) state >>= λ idle. statement_read built book.program session (done + 1) >>= λ r. Some (asked_with book.program store session (done + 1) r)) idle.there
     ∙ ap (λ b. only_if b idle.state >>= λ idle. statement_read built book.program session (done + 1) >>= λ r. Some (asked_with book.program store session (done + 1) r)) test
     ∙ ap (λ (o : Option (Result Statement ℕ)). o >>= λ r. Some (asked_with book.program store session (done + 1) r)) said

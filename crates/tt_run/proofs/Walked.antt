@@ -24,7 +24,8 @@ use Rattle.tt_plain.proofs.Tests.{same_test}
 use Rattle.tt_plain.proofs.law.Clock.{replay_none}
 use Rattle.tt_plain.proofs.law.Gives.{Gives, gives_at, gives_bind, gives_or, gives_tested}
 use Rattle.tt_plain.proofs.law.Turns.{IsTurn, next_gives, open_gives}
-use Rattle.tt_plain.specs.Answers.{only_if, ◌>>=◌}
+use Rattle.tt_script.specs.Lines.{only_if}
+use Rattle.tt_plain.specs.Answers.{◌>>=◌}
 use Rattle.tt_plain.specs.asked.Asked.{Asked}
 use Rattle.tt_plain.specs.asked.Turns.{asked_with, carried_out, statement_read}
 use Rattle.tt_plain.specs.declared.store.Plain.{Plain}
@@ -230,7 +231,7 @@ module _ (program : Script) where
       (step_of built program now.0 entry) refl e
     where
       goes : ((next : Run) → replay_of built program (done ++ entry ∷ []) ≡ Some next → replay_from built program (Some next) own ≡ Some run
-              → walked built program (Some (taken (done ++ entry ∷ []) (own ++ rest))) (replicate m (turn.Session session)) ≡ Some (taken ((done ++ entry ∷ []) ++ own) rest))
+          → walked built program (Some (taken (done ++ entry ∷ []) (own ++ rest))) (replicate m (turn.Session session)) ≡ Some (taken ((done ++ entry ∷ []) ++ own) rest))
           → (step : Option (Plain × Option Reply)) → step_of built program now.0 entry ≡ step → replay_from built program (step >>= λ next. Some (next.0, now.1 ++ next.1 ∷ [])) own ≡ Some run
           → walked built program (session_turn built program session (taken done (entry ∷ (own ++ rest)))) (replicate m (turn.Session session)) ≡ Some (taken (done ++ entry ∷ own) rest)
       goes behind None f g = absurd (none-some run (sym (replay_none built program own) ∙ g))
@@ -238,8 +239,8 @@ module _ (program : Script) where
           let store : store_after built program done ≡ now.0 = store_is done now before in
           let left = subst (λ (s : Plain). is_finished program session (session_at s session) ≡ false) (sym store) (unfinished program now.0 entry session next of.0 f) in
           let made : replay_of built program (done ++ entry ∷ []) ≡ Some (next.0, now.1 ++ next.1 ∷ []) =
-              replay_append (Some (empty_store program, [])) done (entry ∷ []) ∙ ap (λ (r : Option Run). after built program r entry) before
-              ∙ ap (λ (s : Option (Plain × Option Reply)). s >>= λ next. Some (next.0, now.1 ++ next.1 ∷ [])) f in
+          replay_append (Some (empty_store program, [])) done (entry ∷ []) ∙ ap (λ (r : Option Run). after built program r entry) before
+          ∙ ap (λ (s : Option (Plain × Option Reply)). s >>= λ next. Some (next.0, now.1 ++ next.1 ∷ [])) f in
           ap (λ w. walked built program w (replicate m (turn.Session session))) (one_taken session done entry (own ++ rest) of.0 left)
           ∙ behind (next.0, now.1 ++ next.1 ∷ []) made g
           ∙ ap (λ (h : List Entry). Some (taken h rest)) (append_assoc done (entry ∷ []) own)

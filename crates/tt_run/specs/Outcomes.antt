@@ -12,10 +12,10 @@ use Rattle.tt_plain.specs.serial.Order.{IsSerialOrder}
 use Rattle.tt_plain.specs.tally.Facts.{facts_of_part, stored_parts}
 use Rattle.tt_plain.specs.text.Transcript.{transcript_of}
 use Rattle.tt_built.specs.Built.{built}
-use Rattle.tt_state_parts.specs.Chronicle.{Chronicle, rows_of, store_of}
-use Rattle.tt_state_parts.specs.Keeps.{AreTrueParts, StandsFor}
-use Rattle.tt_state_parts.specs.Kept.{Kept}
-use Rattle.tt_state_parts.specs.declared.part.StoredPart.{StoredPart}
+use Rattle.tt_state.specs.Chronicle.{Chronicle, rows_of, store_of}
+use Rattle.tt_state.specs.Keeps.{AreTrueParts, StandsFor}
+use Rattle.tt_state.specs.Kept.{Kept}
+use Rattle.tt_state.specs.declared.part.StoredPart.{StoredPart}
 
 -- each entry is allowed after those before it
 abbrev pub HasLegalHistory : Chronicle → Type 0

@@ -3,7 +3,7 @@ use Rattle.std.specs.Prelude.{Result, ℕ}
 use Rattle.tt_sql.specs.declared.statement.Statement.{Statement}
 use Rattle.tt_plain.specs.asked.Turns.{carried_out}
 use Rattle.tt_built.specs.Built.{built}
-use Rattle.tt_state_parts.specs.Chronicle.{Chronicle, IsNextRead}
+use Rattle.tt_state.specs.Chronicle.{Chronicle, IsNextRead}
 
 -- The session's next text was read as this. Where a part of it is not carried out, it is refused as it stands.
 abbrev pub IsNextAsked : Chronicle → ℕ → ℕ → Result Statement ℕ → Type 0

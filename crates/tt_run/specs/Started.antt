@@ -5,8 +5,8 @@ use Rattle.tt_sql.specs.declared.query.Query.{Query}
 use Rattle.tt_plain.specs.Statements.{insertion}
 use Rattle.tt_plain.specs.TypingRefusal.{typing_refusal}
 use Rattle.tt_built.specs.Built.{is_plain_query}
-use Rattle.tt_state_parts.specs.declared.ticket.Seen.{Seen}
-use Rattle.tt_state_parts.specs.declared.ticket.Ticket.{Ticket}
+use Rattle.tt_state.specs.declared.ticket.Seen.{Seen}
+use Rattle.tt_state.specs.declared.ticket.Ticket.{Ticket}
 use Rattle.tt_query.specs.Answer.{IsOverOneTable}
 
 -- a query of a whole table, which its ticket holds

@@ -3,7 +3,7 @@ use Rattle.std.specs.Prelude.{◌≡◌, ◌<◌, ◌↔◌, IsSome, ◌⊎◌, 
 use Rattle.tt_edge.specs.Outside.{LosesFront, RoseByMore}
 use Rattle.tt_script.specs.declared.script.Script.{Script}
 use Rattle.tt_script.specs.Script.{answer_of}
-use Rattle.tt_state_parts.specs.Chronicle.{Chronicle}
+use Rattle.tt_state.specs.Chronicle.{Chronicle}
 use Rattle.tt_run.specs.Words.{are_replay_words, partition_rows_of}
 use Rattle.tt_run.specs.declared.top.Outcome.{Outcome}
 use Rattle.tt_run.specs.declared.top.Status.{Status}

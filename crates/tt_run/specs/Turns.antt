@@ -8,7 +8,7 @@ use Rattle.tt_plain.specs.history.Replay.{Run, replay_of}
 use Rattle.tt_plain.specs.stored.Sessions.{session_at}
 use Rattle.tt_plain.specs.text.Transcript.{given_replies}
 use Rattle.tt_built.specs.Built.{built}
-use Rattle.tt_state_parts.specs.Chronicle.{Chronicle, store_of}
+use Rattle.tt_state.specs.Chronicle.{Chronicle, store_of}
 use Rattle.tt_run.specs.Sessions.{AreInOrder, Behind, IsIdle}
 
 -- the catalog's history is legal, and these are the replies that the statements got in it

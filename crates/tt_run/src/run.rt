@@ -1,7 +1,7 @@
 //! A program's run: its sessions one after the other, and the transcript of what they did.
 
 ghost use Rattle.std.specs.Prelude.{◌≡◌, ◌≤◌, ◌<◌, ◌+◌, ◌^◌, length, IfOk, OnOk, [], Some, slice_get};
-ghost use Rattle.tt_state_parts.specs.Chronicle.{store_of};
+ghost use Rattle.tt_state.specs.Chronicle.{store_of};
 ghost use Rattle.tt_run.specs.Outcomes.{IsFinished, IsInOrder, IsTranscript};
 ghost use Rattle.tt_run.specs.Sessions.{AreInOrder, IsIdle};
 ghost use Rattle.tt_run.specs.Turns.{AreAllDone, HasReplies, InTurn, IsAnswered, KeepsOthers};
@@ -13,7 +13,7 @@ use std::alloc::{AllocError, Global};
 use tt_history::Reply;
 use tt_journal::transcript;
 use tt_script::{Program, SessionText};
-use tt_state_parts::Catalog;
+use tt_state::Catalog;
 
 // Reads the text of a session's next statement, whose place is counted from 0, and makes its events.
 fn run_next(

@@ -6,7 +6,7 @@ ghost use Rattle.tt_sql.specs.declared.statement.Statement.TheVariants as tree;
 ghost use Rattle.tt_plain.specs.Statements.{InsertsTuples, insertion};
 ghost use Rattle.tt_plain.specs.TypingRefusal.{typing_refusal};
 ghost use Rattle.tt_built.specs.Built.{is_plain_query};
-ghost use Rattle.tt_state_parts.specs.Chronicle.{IsNextRead};
+ghost use Rattle.tt_state.specs.Chronicle.{IsNextRead};
 ghost use Rattle.tt_catalog.specs.Changes.{IsBuiltFor};
 ghost use Rattle.tt_catalog.specs.Tickets.{IsTicketOf};
 ghost use Rattle.tt_query.specs.Answer.{answer_held};
@@ -17,15 +17,13 @@ ghost use Rattle.tt_run.specs.Turns.{IsAnswered};
 
 use std::alloc::{AllocError, Global};
 use tt_agg::AggregateError;
+use tt_built::{plain_create, plain_query};
 use tt_catalog::{abandon, begin_insert, begin_query, end_change, end_read};
 use tt_catalog_ddl::define;
 use tt_change::insert_written;
 use tt_history::{Reply, SharedRows};
-use tt_sql::{
-    CreatedTable, Dml, Insert, InsertSource, Query, Statement, Syntax, Tuple, plain_create,
-    plain_query,
-};
-use tt_state_parts::{Built, Catalog, Started, Ticket};
+use tt_sql::{CreatedTable, Dml, Insert, InsertSource, Query, Statement, Syntax, Tuple};
+use tt_state::{Built, Catalog, Started, Ticket};
 
 // What holds of each catalog: it stands for its program and its history.
 fn stands(cat: &Catalog)
@@ -118,13 +116,7 @@ fn refuse_text(cat: &mut Catalog, session: u32, index: u32, place: u32) -> Reply
     Reply::Refused(tt_catalog::refuse_text(cat, session, index, place))
 }
 
-fn run_query(
-    cat: &mut Catalog,
-    alloc: Global,
-    session: u32,
-    index: u32,
-    query: &Query,
-) -> Reply
+fn run_query(cat: &mut Catalog, alloc: Global, session: u32, index: u32, query: &Query) -> Reply
     requires { IsNextAsked cat.old session index (Ok (tree.Query query.now)) }
     ensures { IsAnswered cat.old cat.new session index result }
 {

@@ -13,7 +13,7 @@ use crate::words::partition_rows;
 use std::alloc::Global;
 use tt_edge::{Sink, Source, Unread, Unwritten, read_all, write_all};
 use tt_script::{BadInput, Program, ReadError, read};
-use tt_state_parts::Catalog;
+use tt_state::Catalog;
 
 /// The most bytes of an input.
 const LONGEST_INPUT: u32 = 67_108_864;

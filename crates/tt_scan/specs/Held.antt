@@ -1,6 +1,6 @@
--- What a statement holds of a table, and what a predicate takes of it.
+-- What a predicate takes of a table that a statement holds.
 use Rattle.std.specs.Prelude.{◌≡◌, ℕ, Bool, true, not, ◌&&◌, List, Option, Some, None}
-use Rattle.std.specs.List.{AllByRecursion, filter, flat_map}
+use Rattle.std.specs.List.{AllByRecursion, filter}
 use Rattle.tt_value.specs.declared.value.Row.{Row}
 use Rattle.tt_value.specs.declared.value.Schema.{Schema}
 use Rattle.tt_value.specs.declared.predicate.Predicate.{Predicate}
@@ -10,11 +10,7 @@ use Rattle.tt_zone.specs.declared.truth_set.TruthSet.{TruthSet}
 use Rattle.tt_zone.specs.Possible.{may_match}
 use Rattle.tt_partition.specs.Cuts.{kinds_of}
 use Rattle.tt_partition.specs.Table.{Table, zones_of}
-use Rattle.tt_state_parts.specs.declared.ticket.Seen.{Seen}
-
--- the rows of the parts that are held, in order
-abbrev pub rows_held : Seen → List Row
-rows_held seen = flat_map (λ (part : ℕ × Table). part.1.rows) seen.parts
+use Rattle.tt_state.specs.declared.ticket.Seen.{Seen}
 
 -- each part is of the columns of the table
 abbrev pub IsOfItsSchema : Seen → Type 0

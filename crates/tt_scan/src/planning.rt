@@ -5,7 +5,7 @@ ghost use Rattle.std.specs.List.{count_by};
 ghost use Rattle.tt_scan.specs.Held.{IsOfItsSchema, may_take, may_hold};
 
 use tt_partition::Partition;
-use tt_state_parts::Seen;
+use tt_state::Seen;
 use tt_value::{Predicate, Schema};
 use tt_zone::may;
 

@@ -5,13 +5,14 @@ ghost use Rattle.tt_value.specs.values.RowText.{IsPrintable};
 ghost use Rattle.tt_partition.specs.Cuts.{kinds_of};
 ghost use Rattle.tt_partition.specs.Table.{IsPart};
 ghost use Rattle.tt_scan.specs.Held as spec;
-ghost use Rattle.tt_scan.specs.Held.{IsOfItsSchema, rows_held, rows_taken};
+ghost use Rattle.tt_state.specs.Held.{rows_held};
+ghost use Rattle.tt_scan.specs.Held.{IsOfItsSchema, rows_taken};
 
 use crate::choosing::append_chosen;
 use std::alloc::{AllocError, Global};
 use tt_filter::select;
 use tt_partition::Partition;
-use tt_state_parts::Seen;
+use tt_state::Seen;
 use tt_value::{Predicate, Row, Schema};
 use tt_zone::{TruthSet, possible};
 

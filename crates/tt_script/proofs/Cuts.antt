@@ -9,8 +9,8 @@ use Rattle.std.proofs.lemmas.List.{append-nil, length-take, take_all}
 use Rattle.std.proofs.lemmas.List.Sums.{fails_before_first}
 use Rattle.std.proofs.lemmas.List.Folds.{length-prefix_len}
 use Rattle.std.proofs.lemmas.List.Splits.{slice_split_first, slice_split_none}
-use Rattle.tt_script.specs.declared.cut.Kind.{Kind}
-use Rattle.tt_script.specs.declared.cut.Kind.TheVariants.{Gap, Cut, Solid}
+use Rattle.tt_script.specs.declared.cut.ByteKind.{ByteKind}
+use Rattle.tt_script.specs.declared.cut.ByteKind.TheVariants.{Gap, Cut, Solid}
 use Rattle.tt_script.specs.declared.cut.Inside.{Inside}
 use Rattle.tt_script.specs.declared.cut.Inside.TheVariants.{Nothing, QuotedText, LineComment, OpeningStar, BlockComment, Star}
 use Rattle.tt_script.specs.Bytes.{is_white}
@@ -35,22 +35,22 @@ kinds_next bytes i inside within =
     ∙ ap (λ (next : ℕ). kind_at inside (get_or bytes i 0) next ∷ kinds_in (inside_after inside (get_or bytes i 0) next) (drop (i + 1) bytes)) (first_of_drop bytes (i + 1))
 
 -- how many kinds in front pass a test: i of them, and those from the place i on
-abbrev pub Counts : (Kind → Bool) → List ℕ → ℕ → Inside → ℕ → Type 0
+abbrev pub Counts : (ByteKind → Bool) → List ℕ → ℕ → Inside → ℕ → Type 0
 Counts test bytes i inside total = i + prefix_len test (kinds_in inside (drop i bytes)) ≡ total
 
-pub run_goes_on : (test : Kind → Bool) (bytes : List ℕ) (i : ℕ) (inside : Inside) (total : ℕ) → i < length bytes → test (kind_at inside (get_or bytes i 0) (next_of bytes i)) ≡ true
+pub run_goes_on : (test : ByteKind → Bool) (bytes : List ℕ) (i : ℕ) (inside : Inside) (total : ℕ) → i < length bytes → test (kind_at inside (get_or bytes i 0) (next_of bytes i)) ≡ true
     → Counts test bytes i inside total → Counts test bytes (i + 1) (inside_after inside (get_or bytes i 0) (next_of bytes i)) total
 run_goes_on test bytes i inside total within passes so_far =
     let f : i + cond true (1 + prefix_len test (kinds_in (inside_after inside (get_or bytes i 0) (next_of bytes i)) (drop (i + 1) bytes))) 0 ≡ total = rw (kinds_next bytes i inside within, passes) at so_far in
     omega arith
 
 -- the same, as the loops' calls answer
-pub goes_on : (test : Kind → Bool) (bytes : List ℕ) (i : ℕ) (inside : Inside) (next : ℕ) (kind : Kind) (after : Inside) (total : ℕ) → i < length bytes → next ≡ get_or bytes (i + 1) 0 → kind ≡ kind_at inside (get_or bytes i 0) next → test kind ≡ true
+pub goes_on : (test : ByteKind → Bool) (bytes : List ℕ) (i : ℕ) (inside : Inside) (next : ℕ) (kind : ByteKind) (after : Inside) (total : ℕ) → i < length bytes → next ≡ get_or bytes (i + 1) 0 → kind ≡ kind_at inside (get_or bytes i 0) next → test kind ≡ true
     → after ≡ inside_after inside (get_or bytes i 0) next → Counts test bytes i inside total → Counts test bytes (i + 1) after total
 goes_on test bytes i inside next kind after total within n k passes a so_far =
     let kind_is : kind ≡ kind_at inside (get_or bytes i 0) (next_of bytes i) = k ∙ ap (kind_at inside (get_or bytes i 0)) n in
     let after_is : after ≡ inside_after inside (get_or bytes i 0) (next_of bytes i) = a ∙ ap (inside_after inside (get_or bytes i 0)) n in
-    rw after_is (run_goes_on test bytes i inside total within (subst (λ (x : Kind). test x ≡ true) kind_is passes) so_far)
+    rw after_is (run_goes_on test bytes i inside total within (subst (λ (x : ByteKind). test x ≡ true) kind_is passes) so_far)
 
 pub length-kinds : (inside : Inside) (bytes : List ℕ) → length (kinds_in inside bytes) ≡ length bytes
 length-kinds inside [] = refl
@@ -90,7 +90,7 @@ kinds_behind inside (byte ∷ bytes) n e within =
 
 -- ---- part by part
 
-prefix_take : (p : Kind → Bool) (n : ℕ) (xs : List Kind) → prefix_len p (take n xs) ≡ min n (prefix_len p xs)
+prefix_take : (p : ByteKind → Bool) (n : ℕ) (xs : List ByteKind) → prefix_len p (take n xs) ≡ min n (prefix_len p xs)
 prefix_take p zero xs = omega arith
 prefix_take p (suc n) [] = omega arith
 prefix_take p (suc n) (x ∷ xs) =
@@ -120,7 +120,7 @@ part_goes_on at bytes n gap e g within =
     ap (spans_from at) split
     ∙ ap (λ (k : ℕ). part_span at (prefix_len is_gap (take n ks)) k ++ spans_from (at + (k + 1)) (slice_split is_cut (drop (n + 1) ks))) size
     ∙ ap (λ (l : List (ℕ × ℕ)). l ++ spans_from (at + (n + 1)) (slice_split is_cut (drop (n + 1) ks))) front
-    ∙ ap (λ (l : List Kind). part_span at gap n ++ spans_from (at + (n + 1)) (slice_split is_cut l)) behind
+    ∙ ap (λ (l : List ByteKind). part_span at gap n ++ spans_from (at + (n + 1)) (slice_split is_cut l)) behind
 
 pub part_ends : (at : ℕ) (bytes : List ℕ) (n gap : ℕ) → n ≡ cut_place Nothing bytes → gap ≡ prefix_len is_gap (kinds_in Nothing bytes) → n ≡ length bytes
     → statements_in at bytes ≡ part_span at gap n

@@ -9,7 +9,7 @@ use Rattle.std.proofs.lemmas.List.{length-drop, drop-drop}
 use Rattle.std.proofs.lemmas.List.Elements.{All-from_recursion}
 use Rattle.std.proofs.lemmas.List.Sums.{prefix_len-le-length}
 use Rattle.std.proofs.lemmas.Str.{IsCharBoundary-before_ascii, IsCharBoundary-after_ascii}
-use Rattle.tt_script.specs.declared.cut.Kind.TheVariants.{Gap, Cut, Solid}
+use Rattle.tt_script.specs.declared.cut.ByteKind.TheVariants.{Gap, Cut, Solid}
 use Rattle.tt_script.specs.declared.cut.Inside.{Inside}
 use Rattle.tt_script.specs.declared.cut.Inside.TheVariants.{Nothing, QuotedText, LineComment, OpeningStar, BlockComment, Star}
 use Rattle.tt_script.specs.Bytes.{is_white}

@@ -4,8 +4,8 @@ use Rattle.std.specs.List.{list_all}
 use Rattle.std.proofs.lemmas.Bool.{cases_Bool, and_parts, eqb-true, eqb-false, ne_eqb}
 use Rattle.std.proofs.lemmas.Bool.Decides.{nat_tests}
 use Rattle.std.proofs.lemmas.List.{append-nil, length-append}
-use Rattle.tt_script.specs.declared.cut.Kind.{Kind}
-use Rattle.tt_script.specs.declared.cut.Kind.TheVariants.{Gap, Solid}
+use Rattle.tt_script.specs.declared.cut.ByteKind.{ByteKind}
+use Rattle.tt_script.specs.declared.cut.ByteKind.TheVariants.{Gap, Solid}
 use Rattle.tt_script.specs.declared.cut.Inside.{Inside}
 use Rattle.tt_script.specs.declared.cut.Inside.TheVariants as insides
 use Rattle.tt_script.specs.Bytes.{is_white, is_line_byte, is_no_quote}
@@ -60,7 +60,7 @@ not_closed_tail : (byte : ℕ) (body : List ℕ) → NotClosed (byte ∷ body) �
 not_closed_tail byte body unclosed = λ k star. (let e : suc k + 1 ≡ suc (k + 1) = omega arith in subst (λ (n : ℕ). get_or (byte ∷ body) n 0 ≢ 47) e (unclosed (suc k) star))
 
 -- a comment's bytes, behind a star or not; no slash stands behind a star
-block_run : (star : Bool) (body rest : List ℕ) (kinds : List Kind) → NotClosed body → (star ≡ true → get_or body 0 0 ≢ 47) → kinds_in insides.BlockComment rest ≡ kinds → kinds_in insides.Star rest ≡ kinds
+block_run : (star : Bool) (body rest : List ℕ) (kinds : List ByteKind) → NotClosed body → (star ≡ true → get_or body 0 0 ≢ 47) → kinds_in insides.BlockComment rest ≡ kinds → kinds_in insides.Star rest ≡ kinds
     → kinds_in (in_block star) (body ++ rest) ≡ replicate (length body) Gap ++ kinds
 block_run true [] rest kinds unclosed slash a b = b
 block_run false [] rest kinds unclosed slash a b = a
@@ -103,12 +103,12 @@ no_comment byte (next ∷ rest) ends = ends
 abbrev Kinds : Piece → List ℕ → Type 0
 Kinds piece rest = kinds_in insides.Nothing (spelling piece ++ rest) ≡ replicate (length (spelling piece)) (kind_of piece) ++ kinds_in insides.Nothing rest
 
-two_more : (n m : ℕ) (kinds : List Kind) → m ≡ n + 2 → replicate n Gap ++ (Gap ∷ Gap ∷ kinds) ≡ replicate m Gap ++ kinds
+two_more : (n m : ℕ) (kinds : List ByteKind) → m ≡ n + 2 → replicate n Gap ++ (Gap ∷ Gap ∷ kinds) ≡ replicate m Gap ++ kinds
 two_more n m kinds e =
     let f : m ≡ suc (suc n) = omega arith in
     append_many n Gap (Gap ∷ kinds) ∙ ap (λ l. Gap ∷ l) (append_many n Gap kinds) ∙ ap (λ (k : ℕ). replicate k Gap ++ kinds) (sym f)
 
-one_more : (n m : ℕ) (kinds : List Kind) → m ≡ n + 1 → replicate n Solid ++ (Solid ∷ kinds) ≡ replicate m Solid ++ kinds
+one_more : (n m : ℕ) (kinds : List ByteKind) → m ≡ n + 1 → replicate n Solid ++ (Solid ∷ kinds) ≡ replicate m Solid ++ kinds
 one_more n m kinds e =
     let f : m ≡ suc n = omega arith in
     append_many n Solid kinds ∙ ap (λ (k : ℕ). replicate k Solid ++ kinds) (sym f)

@@ -2,8 +2,8 @@
 -- the body's pieces say is a law (`a_body_has_one_cut`).
 use Rattle.std.specs.Prelude.{ℕ, ◌+◌, Bool, true, false, ◌||◌, ◌&&◌, ◌==◌, nat_lt, if◌then◌else◌, List, [], ◌∷◌, ◌++◌, length, slice_index}
 use Rattle.std.specs.List.{prefix_len, slice_split}
-use Rattle.tt_script.specs.declared.cut.Kind.{Kind}
-use Rattle.tt_script.specs.declared.cut.Kind.TheVariants.{Gap, Cut, Solid}
+use Rattle.tt_script.specs.declared.cut.ByteKind.{ByteKind}
+use Rattle.tt_script.specs.declared.cut.ByteKind.TheVariants.{Gap, Cut, Solid}
 use Rattle.tt_script.specs.declared.cut.Inside.{Inside}
 use Rattle.tt_script.specs.declared.cut.Inside.TheVariants.{Nothing, QuotedText, LineComment, OpeningStar, BlockComment, Star}
 use Rattle.tt_script.specs.Bytes.{is_white}
@@ -13,7 +13,7 @@ abbrev pub begins_comment : ℕ → ℕ → Bool
 begins_comment byte next = (byte == 45 && next == 45) || (byte == 47 && next == 42)
 
 -- what a byte is, inside of this, and with this byte behind it
-abbrev pub kind_at : Inside → ℕ → ℕ → Kind
+abbrev pub kind_at : Inside → ℕ → ℕ → ByteKind
 kind_at Nothing byte next = if byte == 59 then Cut else (if is_white byte || begins_comment byte next then Gap else Solid)
 kind_at QuotedText byte next = Solid
 kind_at LineComment byte next = Gap
@@ -34,16 +34,16 @@ inside_after BlockComment byte next = if byte == 42 then Star else BlockComment
 inside_after Star byte next = if byte == 47 then Nothing else (if byte == 42 then Star else BlockComment)
 
 -- the kind of each byte
-abbrev pub kinds_in : Inside → List ℕ → List Kind
+abbrev pub kinds_in : Inside → List ℕ → List ByteKind
 kinds_in inside [] = []
 kinds_in inside (byte ∷ bytes) = kind_at inside byte (slice_index bytes 0) ∷ kinds_in (inside_after inside byte (slice_index bytes 0)) bytes
 
-abbrev pub is_cut : Kind → Bool
+abbrev pub is_cut : ByteKind → Bool
 is_cut Gap = false
 is_cut Cut = true
 is_cut Solid = false
 
-abbrev pub is_gap : Kind → Bool
+abbrev pub is_gap : ByteKind → Bool
 is_gap Gap = true
 is_gap Cut = false
 is_gap Solid = false
@@ -55,7 +55,7 @@ part_span at gap size = if nat_lt gap size then (at + gap, at + size) ∷ [] els
 
 -- Where the statements stand in parts that were cut, the first part beginning at this place: from the first byte that is
 -- neither white space nor in a comment to the part's end.
-unfoldable pub spans_from : ℕ → List (List Kind) → List (ℕ × ℕ)
+unfoldable pub spans_from : ℕ → List (List ByteKind) → List (ℕ × ℕ)
 spans_from at [] = []
 spans_from at (part ∷ parts) = part_span at (prefix_len is_gap part) (length part) ++ spans_from (at + (length part + 1)) parts
 

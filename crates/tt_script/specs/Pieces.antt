@@ -1,8 +1,8 @@
 -- What a session's body is made of: white space, comments, texts in quotes, semicolons that cut, and other bytes.
 use Rattle.std.specs.Prelude.{◌≡◌, ◌≢◌, ℕ, ◌+◌, false, ◌||◌, ◌&&◌, ◌==◌, IsTrue, List, [], ◌∷◌, ◌++◌, length, slice_index, replicate, codes}
 use Rattle.std.specs.List.{flat_map, list_all}
-use Rattle.tt_script.specs.declared.cut.Kind.{Kind}
-use Rattle.tt_script.specs.declared.cut.Kind.TheVariants as kinds
+use Rattle.tt_script.specs.declared.cut.ByteKind.{ByteKind}
+use Rattle.tt_script.specs.declared.cut.ByteKind.TheVariants as kinds
 use Rattle.tt_script.specs.Bytes.{is_white, is_line_byte, is_no_quote}
 
 pub data Piece : Type 0 where
@@ -66,7 +66,7 @@ ArePieces [] = Unit {0}
 ArePieces (piece ∷ pieces) = IsPiece piece × EndsBefore piece (spelled pieces) × ArePieces pieces
 
 -- white space and comments may stand around a statement, and a semicolon cuts
-abbrev pub kind_of : Piece → Kind
+abbrev pub kind_of : Piece → ByteKind
 kind_of (White b) = kinds.Gap
 kind_of (LineComment body) = kinds.Gap
 kind_of (BlockComment body) = kinds.Gap
@@ -77,7 +77,7 @@ kind_of Semicolon = kinds.Cut
 kind_of (Other b) = kinds.Solid
 
 -- the kind of each byte of pieces
-abbrev pub kinds_of : List Piece → List Kind
+abbrev pub kinds_of : List Piece → List ByteKind
 kinds_of pieces = flat_map (λ piece. replicate (length (spelling piece)) (kind_of piece)) pieces
 
 -- the body is spelled by pieces

@@ -14,7 +14,7 @@ pub const MOST_STATEMENTS: usize = 100_000;
 
 /// What a byte of a body is: white space or part of a comment; a semicolon that cuts; or anything else.
 #[derive(Clone, Copy)]
-pub enum Kind {
+pub enum ByteKind {
     Gap,
     Cut,
     Solid,
@@ -38,34 +38,34 @@ fn begins_comment(byte: u8, next: u8) -> bool
     (byte == b'-' && next == b'-') || (byte == b'/' && next == b'*')
 }
 
-fn is_cut(kind: Kind) -> bool
+fn is_cut(kind: ByteKind) -> bool
     ensures { result ≡ is_cut kind }
 {
-    matches!(kind, Kind::Cut)
+    matches!(kind, ByteKind::Cut)
 }
 
-fn is_gap(kind: Kind) -> bool
+fn is_gap(kind: ByteKind) -> bool
     ensures { result ≡ is_gap kind }
 {
-    matches!(kind, Kind::Gap)
+    matches!(kind, ByteKind::Gap)
 }
 
-fn kind_at(inside: Inside, byte: u8, next: u8) -> Kind
+fn kind_at(inside: Inside, byte: u8, next: u8) -> ByteKind
     ensures { result ≡ kind_at inside byte next }
 {
     match inside {
         Inside::Nothing => {
             if byte == b';' {
-                Kind::Cut
+                ByteKind::Cut
             } else if is_white(byte) || begins_comment(byte, next) {
-                Kind::Gap
+                ByteKind::Gap
             } else {
-                Kind::Solid
+                ByteKind::Solid
             }
         }
-        Inside::QuotedText => Kind::Solid,
+        Inside::QuotedText => ByteKind::Solid,
         Inside::LineComment | Inside::OpeningStar | Inside::BlockComment | Inside::Star =>
-            Kind::Gap,
+            ByteKind::Gap,
     }
 }
 

@@ -1,5 +1,4 @@
 -- Which trees the grammar gives.
-pub mod Built
 pub mod Expressions
 pub mod Leaves
 pub mod Lists

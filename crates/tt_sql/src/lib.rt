@@ -1,7 +1,6 @@
 //! SQL: its grammar, statements as trees, and what they mean.
 #![tactic(auto)]
 
-mod carried;
 pub mod change;
 pub mod examples;
 pub mod grammar_laws;
@@ -11,7 +10,6 @@ pub mod statement;
 pub mod table;
 pub mod tree_laws;
 
-pub use carried::{built, plain_create, plain_query};
 pub use change::{Copy, Delete, Dml, Insert, InsertSource, Set, Tuple, Update};
 pub use query::{
     Clause, Item, Join, Key, KeyColumn, Moment, Offset, Pair, Query, Selection, Side, Source,

@@ -1,6 +1,13 @@
-pub mod Chronicle
-pub mod Commits
+pub mod Begins
+pub mod Ended
+pub mod Filters
+pub mod Goes
+pub mod Histories
+pub mod Lists
 pub mod Lookups
-pub mod Outcomes
-pub mod Ready
+pub mod Owed
+pub mod Pins
+pub mod Refusals
+pub mod Steps
+pub mod TrueFacts
 pub mod Turns

@@ -1,32 +1,51 @@
--- What contracts see of a catalog, what holds of every one, and what a call that makes an entry does to it.
-use Rattle.std.specs.Prelude.{◌≡◌, ℕ, ◌≤◌, List, [], ◌∷◌, ◌++◌, Option, Some}
+-- What contracts see of a catalog, and what a call that makes an entry does to it.
+use Rattle.std.specs.Prelude.{List, Option, Result, Some, [], ℕ, ◌++◌, ◌+◌, ◌∷◌, ◌≡◌}
+use Rattle.tt_value.specs.declared.value.Row.{Row}
 use Rattle.tt_script.specs.declared.script.Script.{Script}
-use Rattle.tt_script.specs.Program.{IsProgram}
+use Rattle.tt_history.specs.declared.history.Actor.TheVariants as actor
 use Rattle.tt_history.specs.declared.history.Entry.{Entry}
+use Rattle.tt_history.specs.declared.history.EntryKind.{EntryKind}
 use Rattle.tt_history.specs.declared.reply.Reply.{Reply}
-use Rattle.tt_plain.specs.declared.plain.Plain.{Plain}
-use Rattle.tt_plain.specs.Replay.{step_of, replay_of}
-use Rattle.tt_plain.specs.SoundStore.{owed, IsSound}
+use Rattle.tt_plain.specs.declared.store.Plain.{Plain}
+use Rattle.tt_plain.specs.declared.store.PlainOpen.{PlainOpen}
+use Rattle.tt_sql.specs.declared.statement.Statement.{Statement}
+use Rattle.tt_plain.specs.asked.Turns.{asked_with, next_asked, open_asked}
+use Rattle.tt_plain.specs.history.Contents.{contents_of}
+use Rattle.tt_plain.specs.history.Replay.{store_after}
+use Rattle.tt_plain.specs.history.Step.{step_of}
+use Rattle.tt_built.specs.Built.{built}
 
--- the program and the partition rows that the catalog was made with, its history, and its tables and sessions as a plain store
+-- the program and the most rows of a part that the catalog was made with, and its history
 pub record Chronicle : Type 0 where
   pub program : Script
   pub cap : ℕ
   pub history : List Entry
-  pub store : Plain
 
--- The catalog stands for its program and its history: the history is legal, and the store is the one that it leads to.
--- For each entry that the statements may still make there is room.
-pub record StandsFor (book : Chronicle) (room : ℕ) : Type 0 where
-  pub replies : List (Option Reply)
-  pub legal : replay_of book.program book.history ≡ Some (book.store, replies)
-  pub sound : IsSound book.program book.store
-  pub limits : IsProgram book.program
-  pub roomy : owed book.program.sessions book.store.sessions ≤ room
+-- the plain store to which the history leads
+abbrev pub store_of : Chronicle → Plain
+store_of chronicle = store_after built chronicle.program chronicle.history
 
--- A call makes one entry: the history is longer by it, and store and reply are those of the plain store's step.
+-- the rows of each part that it has added, by number
+abbrev pub rows_of : Chronicle → List (List Row)
+rows_of chronicle = contents_of built chronicle.program chronicle.history
+
+-- an entry of a session's statement, at the next moment
+abbrev pub entry_at : ℕ → ℕ → ℕ → EntryKind → Entry
+entry_at moment session index kind = record { moment = moment + 1; actor = actor.Session session; index = index; kind = kind }
+
+-- A call makes one entry: the history is longer by it, and its reply is that of the plain store's step.
 pub record MadeEntry (old new : Chronicle) (entry : Entry) (told : Option Reply) : Type 0 where
   pub same_program : new.program ≡ old.program
   pub same_cap : new.cap ≡ old.cap
   pub longer : new.history ≡ old.history ++ entry ∷ []
-  pub step : step_of old.program old.store entry ≡ Some (new.store, told)
+  pub step : step_of built old.program (store_of old) entry ≡ Some (store_of new, told)
+
+-- the session's next statement, and what was read of its text
+abbrev pub IsNextRead : Chronicle → ℕ → ℕ → Result Statement ℕ → Type 0
+IsNextRead chronicle session index read =
+    next_asked built chronicle.program (store_of chronicle) session index ≡ Some (asked_with chronicle.program (store_of chronicle) session index read)
+
+-- the session's open statement, what was read of its text, and what it sees
+abbrev pub IsOpenRead : Chronicle → ℕ → ℕ → Result Statement ℕ → PlainOpen → Type 0
+IsOpenRead chronicle session index read seen =
+    open_asked built chronicle.program (store_of chronicle) session index ≡ Some (asked_with chronicle.program (store_of chronicle) session index read, seen)

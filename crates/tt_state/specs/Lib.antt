@@ -1,8 +1,6 @@
 pub mod Chronicle
-pub mod MadeEntries
+pub mod Held
+pub mod Keeps
+pub mod Kept
 pub mod Moves
-pub mod Openings
-pub mod Outcomes
-pub mod PlainOf
-pub mod Ready
-pub mod Tickets
+pub mod Owed

@@ -2,41 +2,48 @@
 
 ghost use Rattle.std.specs.Prelude.{◌≡◌, ◌≤◌, [], ◌++◌, length, IfOk, OnOk, map};
 ghost use Rattle.std.specs.List.{flat_map};
-ghost use Rattle.tt_plain.specs.Limits.{statements_in, entry_limit};
-ghost use Rattle.tt_plain.specs.Store.{empty_store, points_before, new_session};
-ghost use Rattle.tt_state.specs.PlainOf.{plain_of};
+ghost use Rattle.tt_plain.specs.stored.Empty.{no_points};
+ghost use Rattle.tt_state.specs.Kept.{kept_of};
+ghost use Rattle.tt_state.specs.Moves.{first_kept, no_session};
+ghost use Rattle.tt_state.specs.Owed.{entry_limit, statements_in};
+ghost use Rattle.tt_plain.specs.tally.Facts.{facts_of_part, stored_parts};
+ghost use Rattle.tt_state.specs.Keeps.{AreTrueParts};
+ghost use Rattle.tt_state.specs.Chronicle.{rows_of, store_of};
 
-use crate::state::State;
+use crate::part::StoredPart;
+use crate::state::{SessionState, State};
 use std::alloc::{AllocError, Global};
 use std::marker::Model;
 use tt_history::History;
-use tt_plain::PlainSession;
+use tt_marks::Marks;
+use tt_names::Names;
 use tt_script::{Program, Script, SessionText};
 
-/// The tables with the bag of each version, the sessions, and the history of what they did. It keeps the
-/// program that it was made for and the rows of a partition. Contracts see it as a `Chronicle`, whose history
-/// is legal and leads to its store.
+/// The tables with the partitions of each of their layouts, the sessions, and the history of what they did. It keeps
+/// the program that it was made for and the most rows of a partition. Contracts see it as a `Chronicle`: its history
+/// is legal, and what it keeps stands for the store to which that leads.
 #[derive(Drop)]
 pub struct Catalog {
-    pub(crate) program: Program,
-    pub(crate) cap: u32,
-    pub(crate) history: History,
-    pub(crate) state: State,
+    pub program: Program,
+    pub cap: u32,
+    pub history: History,
+    pub state: State,
 }
 
 impl Model for Catalog {
-    ghost use Rattle.tt_state.specs.Chronicle.{Chronicle, StandsFor};
-    ghost use Rattle.tt_state.specs.PlainOf.{plain_of};
+    ghost use Rattle.tt_state.specs.Chronicle.{Chronicle};
+    ghost use Rattle.tt_state.specs.Keeps.{StandsFor};
+    ghost use Rattle.tt_state.specs.Kept.{kept_of};
 
     ghost Value = { Chronicle };
 
-    ghost view = { λ c. record { program = c.program; cap = c.cap; history = c.history.list; store = plain_of c.state } };
+    ghost view = { λ c. record { program = c.program; cap = c.cap; history = c.history.list } };
 
-    ghost invariant = { λ c. StandsFor (record { program = c.program; cap = c.cap; history = c.history.list; store = plain_of c.state }) c.history.room };
+    ghost invariant = { λ c. StandsFor (record { program = c.program; cap = c.cap; history = c.history.list }) (kept_of c.state) c.history.room };
 }
 
 fn push_points(points: &mut Vec<Option<u64>>, lines: &SessionText) -> Result<(), AllocError>
-    ensures { OnOk result (points.new.items ≡ points.old.items ++ points_before lines.now) }
+    ensures { OnOk result (points.new.items ≡ points.old.items ++ no_points lines.now) }
 {
     for _span in lines.statements.items() {
         points.push(None)?;
@@ -45,7 +52,7 @@ fn push_points(points: &mut Vec<Option<u64>>, lines: &SessionText) -> Result<(),
 }
 
 fn first_points(alloc: Global, program: &Script) -> Result<Vec<Option<u64>>, AllocError>
-    ensures { IfOk result (λ points. points.items ≡ flat_map points_before program.now.sessions) }
+    ensures { IfOk result (λ points. points.items ≡ flat_map no_points program.now.sessions) }
 {
     let mut points = Vec::new(alloc);
     for lines in program.sessions.items() {
@@ -54,12 +61,12 @@ fn first_points(alloc: Global, program: &Script) -> Result<Vec<Option<u64>>, All
     Ok(points)
 }
 
-fn first_sessions(alloc: Global, program: &Script) -> Result<Vec<PlainSession>, AllocError>
-    ensures { IfOk result (λ made. made.items ≡ map (λ _. new_session) program.now.sessions) }
+fn first_sessions(alloc: Global, program: &Script) -> Result<Vec<SessionState>, AllocError>
+    ensures { IfOk result (λ made. made.items ≡ map (λ _. no_session) program.now.sessions) }
 {
     let mut sessions = Vec::new(alloc);
     for _lines in program.sessions.items() {
-        sessions.push(PlainSession {
+        sessions.push(SessionState {
             done: 0,
             running: None,
         })?;
@@ -67,13 +74,16 @@ fn first_sessions(alloc: Global, program: &Script) -> Result<Vec<PlainSession>, 
     Ok(sessions)
 }
 
-#[tactic(auto, unfolding(tt_plain::specs::Store::empty_store))]
 fn first_state(alloc: Global, program: &Script) -> Result<State, AllocError>
-    ensures { IfOk result (λ state. plain_of state ≡ empty_store program.now) }
+    ensures { IfOk result (λ state. kept_of state ≡ first_kept program.now) }
 {
     Ok(State {
         moment: program.start,
         tables: Vec::new(alloc),
+        names: Names::new(alloc),
+        marks: Marks::new(alloc),
+        parts: Vec::new(alloc),
+        pins: Vec::new(alloc),
         sessions: first_sessions(alloc, program)?,
         points: first_points(alloc, program)?,
     })
@@ -98,7 +108,6 @@ impl Catalog {
         ensures program { IfOk result (λ catalog. catalog.program ≡ program.now) }
         ensures cap { IfOk result (λ catalog. catalog.cap ≡ cap) }
         ensures history { IfOk result (λ catalog. catalog.history ≡ []) }
-        ensures store { IfOk result (λ catalog. catalog.store ≡ empty_store program.now) }
     {
         let script = program.script();
         Ok(Catalog {
@@ -109,9 +118,10 @@ impl Catalog {
         })
     }
 
-    /// The most rows of a partition.
+    /// The most rows of a partition, 1 to 65,536.
     pub fn cap(&self) -> u32
-        ensures { result ≡ self.now.cap }
+        ensures cap { result ≡ self.now.cap }
+        ensures range { (1 ≤ result) × (result ≤ 65536) }
     {
         self.cap
     }
@@ -121,5 +131,13 @@ impl Catalog {
         ensures { result.now.list ≡ self.now.history }
     {
         &self.history
+    }
+
+    /// The parts that are kept, by number, each with its facts.
+    pub fn stored(&self) -> &[StoredPart]
+        ensures facts { map (λ part. part.facts) result.now ≡ map facts_of_part (stored_parts (store_of self.now).tally) }
+        ensures true_parts { AreTrueParts (store_of self.now).tables (rows_of self.now) 1 result.now }
+    {
+        &self.state.parts
     }
 }

@@ -1,15 +1,14 @@
-//! The catalog: the tables with the bag of each version, the sessions, and the history of what was done.
+//! The catalog over partitions: what it keeps of its tables, and what its keeping stands for.
 #![tactic(auto)]
 
-pub mod calls;
 pub mod catalog;
-pub mod changes;
-pub mod definitions;
+pub mod entries;
 pub mod lookup;
-pub mod opening;
+pub mod part;
 pub mod state;
 pub mod ticket;
 
 pub use catalog::Catalog;
-pub use state::State;
+pub use part::{SharedPart, StoredPart};
+pub use state::{SessionState, State, TableState};
 pub use ticket::{Built, Seen, Started, Ticket};

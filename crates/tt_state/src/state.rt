@@ -1,22 +1,52 @@
-//! What the catalog keeps beside its program and its history, and how a statement begins and ends in it.
+//! What the catalog keeps beside its program and its history.
 
-ghost use Rattle.std.specs.Prelude.{◌≡◌, ◌+◌, ◌-◌, ◌<◌, ◌≤◌, ◌^◌, length, OnOk, OnErr};
-ghost use Rattle.tt_plain.specs.Store.{point_place};
-ghost use Rattle.tt_state.specs.Moves.{HasEnded, HasBegun};
-ghost use Rattle.tt_state.specs.PlainOf.{plain_of};
-ghost use Rattle.tt_state.specs.Ready.{IsReady};
+ghost use Rattle.std.specs.Prelude.{◌≡◌, ◌+◌, ◌-◌, ◌<◌, ◌≤◌, ◌^◌, length};
+ghost use Rattle.tt_plain.specs.stored.Points.{point_place};
+ghost use Rattle.tt_state.specs.Kept.{kept_of};
+ghost use Rattle.tt_state.specs.Moves.{with_begun, with_ended, IsReady};
 
-use tt_plain::{PlainOpen, PlainSession, PlainTable};
+use crate::part::StoredPart;
+use tt_layout::TableFacts;
+use tt_marks::Marks;
+use tt_names::Names;
+use tt_plain::tally::TallyPin;
 use tt_script::Program;
+use tt_value::Schema;
 
-/// What the catalog keeps beside its program and its history. The moment is that of the last entry, in
-/// milliseconds; the rows of a version are shared and never copied.
+/// A table: its facts, with which parts make it up since when, and what its statements ask of it.
+#[derive(Drop)]
+pub struct TableState {
+    pub facts: TableFacts,
+    pub schema: Schema,
+    /// Without Fail-safe, and with at most 1 day of Time Travel.
+    pub transient: bool,
+    /// The place, from 0, of the column by which the table is clustered.
+    pub key: Option<u32>,
+    pub suspended: bool,
+}
+
+/// A session: how many of its statements have ended, and the number of the one that is open.
+#[derive(Clone, Copy, Drop)]
+pub struct SessionState {
+    pub done: u32,
+    pub running: Option<u32>,
+}
+
+/// What the catalog keeps beside its program and its history.
 #[derive(Drop)]
 pub struct State {
+    /// That of the last entry, in milliseconds.
     pub moment: u64,
-    pub tables: Vec<PlainTable>,
-    pub sessions: Vec<PlainSession>,
-    /// One for each statement, as a plain store has them.
+    /// The table of number n at place n - 1.
+    pub tables: Vec<TableState>,
+    pub names: Names,
+    pub marks: Marks,
+    /// The part of number n at place n - 1, since none is taken away yet.
+    pub parts: Vec<StoredPart>,
+    /// The parts that open statements may still read.
+    pub pins: Vec<TallyPin>,
+    pub sessions: Vec<SessionState>,
+    /// One for each statement, session after session.
     pub points: Vec<Option<u64>>,
 }
 
@@ -33,32 +63,30 @@ fn point_index(program: &Program, session: u32, index: u32) -> usize
 }
 
 impl State {
-    /// The statement has ended, at the next moment.
-    #[tactic(auto, unfolding(tt_plain::specs::Store::with_ended))]
+    /// The session's statement has ended, at the next moment, which is its point.
     pub fn end_statement(&mut self, program: &Program, session: u32, index: u32)
-        requires { IsReady program.now (plain_of self.old) session index }
-        ensures { HasEnded program.now self.old self.new session index }
+        requires { IsReady program.now (kept_of self.old) session index }
+        ensures { kept_of self.new ≡ with_ended program.now (kept_of self.old) session index }
     {
         let place = point_index(program, session, index);
         self.moment += 1;
-        self.sessions[session as usize] = PlainSession {
+        self.sessions[session as usize] = SessionState {
             done: index,
             running: None,
         };
         self.points[place] = Some(self.moment);
     }
 
-    /// The statement has begun, at the next moment.
-    #[tactic(auto, unfolding(tt_plain::specs::Store::with_opened))]
-    pub fn begin_statement(&mut self, program: &Program, session: u32, index: u32, seen: PlainOpen)
-        requires { IsReady program.now (plain_of self.old) session index }
-        ensures { HasBegun program.now self.old self.new session index seen }
+    /// The session's statement has begun, at the next moment, and has no point yet.
+    pub fn begin_statement(&mut self, program: &Program, session: u32, index: u32)
+        requires { IsReady program.now (kept_of self.old) session index }
+        ensures { kept_of self.new ≡ with_begun program.now (kept_of self.old) session index }
     {
         let place = point_index(program, session, index);
         self.moment += 1;
-        self.sessions[session as usize] = PlainSession {
+        self.sessions[session as usize] = SessionState {
             done: index - 1,
-            running: Some(seen),
+            running: Some(index),
         };
         self.points[place] = Some(u64::MAX);
     }

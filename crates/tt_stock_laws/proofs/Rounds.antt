@@ -15,7 +15,8 @@ use Rattle.tt_plain.proofs.Tests.{none_is, same_number}
 use Rattle.tt_plain.proofs.law.Gives.{Gives, gives_bind, gives_tested}
 use Rattle.tt_plain.proofs.law.Lists.{every_on}
 use Rattle.tt_plain.proofs.law.session.Marks.{others_free}
-use Rattle.tt_plain.specs.Answers.{only_if, ◌>>=◌}
+use Rattle.tt_script.specs.Lines.{only_if}
+use Rattle.tt_plain.specs.Answers.{◌>>=◌}
 use Rattle.tt_plain.specs.asked.Carried.{Carried}
 use Rattle.tt_plain.specs.declared.store.Plain.{Plain}
 use Rattle.tt_plain.specs.declared.store.PlainSession.{PlainSession}
@@ -93,7 +94,7 @@ module _ (carried : Carried) (program : Script) (store : Plain) (sound : IsSound
   taken_stored : (number : ℕ) (table : PlainTable) (parts : List ℕ) → slice_get store.tables (number - 1) ≡ Some table → may_be_reclustered store table ≡ true → may_take tally number parts ≡ true → AreStored tally parts
   taken_stored number table parts at free takes =
       let live = none_is table.dropped (and_parts (is_live table) (is_some table.key) (and_parts (is_live table && is_some table.key) (not table.suspended) (and_parts (is_live table && is_some table.key && not table.suspended) (not (has_exclusive store table.number)) free).0).0).0 in
-      let there = (and_parts (is_ascending parts && nat_le 2 (length parts) && nat_le (length parts) 16) (list_all (has (current_parts tally number)) parts) takes).1 in
+      let there = (and_parts (nat_le 1 number && is_ascending parts && nat_le 2 (length parts) && nat_le (length parts) 16) (list_all (has (current_parts tally number)) parts) takes).1 in
       stored_from tally parts (λ n h. place_stored carried program store sound stocks number table at live n (all_has (has (current_parts tally number)) parts n there h))
 
   -- ---- landings

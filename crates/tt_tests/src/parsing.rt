@@ -9,10 +9,11 @@ mod statements;
 use std::alloc::AllocError;
 use std::process::Abort;
 use std::test::Fail;
+use tt_built::{plain_create, plain_query};
 use tt_lex::tokens;
 use tt_parse::{ParseError, parse};
 use tt_print::print;
-use tt_sql::{Definition, Dml, InsertSource, Request, Statement, plain_create, plain_query};
+use tt_sql::{Definition, Dml, InsertSource, Request, Statement};
 
 /// The statement that a text is, or the place of its fault.
 fn read<R: Abort + AllocGlobal>(rt: &R, text: &str) -> Result<Result<Statement, u32>, Fail> {

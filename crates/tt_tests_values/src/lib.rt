@@ -1,10 +1,12 @@
-//! Tests of values, texts, bags, tokens, dates, scripts, sources and sinks.
+//! Tests of values, texts, bags, tokens, dates, scripts, histories, sources and sinks.
 #![tactic(auto)]
 
 #[cfg(test)]
 mod dates;
 #[cfg(test)]
 mod edge;
+#[cfg(test)]
+mod histories;
 #[cfg(test)]
 mod scripts;
 #[cfg(test)]

@@ -2,7 +2,8 @@
 use Rattle.std.specs.Option.{option_or}
 use Rattle.std.specs.Prelude.{Bool, None, Option, Some, false, if◌then◌else◌, option_map, refl, true, ⊤, ◌≡◌}
 use Rattle.std.proofs.Common.{subst}
-use Rattle.tt_plain.specs.Answers.{only_if, ◌>>=◌}
+use Rattle.tt_script.specs.Lines.{only_if}
+use Rattle.tt_plain.specs.Answers.{◌>>=◌}
 
 abbrev pub Gives : {A : Type 0} → (A → Type 0) → Option A → Type 0
 Gives P None = ⊤

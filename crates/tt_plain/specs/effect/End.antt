@@ -10,7 +10,8 @@ use Rattle.tt_layout.specs.Numbers.{has}
 use Rattle.tt_plain.specs.declared.store.PlainOpen.{PlainOpen}
 use Rattle.tt_plain.specs.declared.store.PlainPending.{PlainPending}
 use Rattle.tt_plain.specs.declared.store.PlainSession.{PlainSession}
-use Rattle.tt_plain.specs.Answers.{only_if, ◌>>=◌}
+use Rattle.tt_script.specs.Lines.{only_if}
+use Rattle.tt_plain.specs.Answers.{◌>>=◌}
 use Rattle.tt_plain.specs.asked.Asked.{Asked, request_asked, state_asked}
 use Rattle.tt_plain.specs.asked.Request.{Reads, Request, Writes}
 use Rattle.tt_plain.specs.effect.Commit.{version_committed}

@@ -4,7 +4,8 @@ use Rattle.tt_history.specs.declared.history.Added.{Added}
 use Rattle.tt_plain.specs.declared.store.Plain.{Plain}
 use Rattle.tt_plain.specs.declared.tally.Tally.{Tally}
 use Rattle.tt_plain.specs.declared.tally.TallyRound.{TallyRound}
-use Rattle.tt_plain.specs.Answers.{only_if, ◌>>=◌}
+use Rattle.tt_script.specs.Lines.{only_if}
+use Rattle.tt_plain.specs.Answers.{◌>>=◌}
 use Rattle.tt_plain.specs.effect.Effect.{Effect}
 use Rattle.tt_plain.specs.effect.Round.{miss_of, round_of, worker_effect}
 use Rattle.tt_plain.specs.tally.Changes.{AddsParts, EndsRound}

@@ -2,7 +2,8 @@
 use Rattle.std.specs.Prelude.{Bool, None, Option, Some, [], false, true, ℕ, ◌==◌, ◌∷◌}
 use Rattle.tt_history.specs.declared.history.Miss.{Miss}
 use Rattle.tt_plain.specs.declared.store.Plain.{Plain}
-use Rattle.tt_plain.specs.Answers.{only_if, ◌>>=◌}
+use Rattle.tt_script.specs.Lines.{only_if}
+use Rattle.tt_plain.specs.Answers.{◌>>=◌}
 use Rattle.tt_plain.specs.effect.Effect.{Effect}
 use Rattle.tt_plain.specs.effect.Round.{miss_of, round_of, worker_effect}
 use Rattle.tt_plain.specs.tally.Changes.{EndsRound}

@@ -2,7 +2,7 @@
 use Rattle.std.specs.List.{list_all}
 use Rattle.std.specs.Prelude.{Bool, List, Option, [], length, nat_lt, not, ℕ, ◌&&◌, ◌+◌, ◌==◌, ◌∷◌}
 use Rattle.tt_plain.specs.declared.store.Plain.{Plain}
-use Rattle.tt_plain.specs.Answers.{only_if}
+use Rattle.tt_script.specs.Lines.{only_if}
 use Rattle.tt_plain.specs.effect.Effect.{Effect}
 use Rattle.tt_plain.specs.effect.Round.{worker_effect}
 use Rattle.tt_plain.specs.tally.Changes.{TakesAway}

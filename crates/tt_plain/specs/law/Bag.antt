@@ -4,7 +4,6 @@ use Rattle.std.specs.Prelude.{All, List, Some, filter, option_to_list, ℕ, ◌=
 use Rattle.tt_value.specs.declared.value.Row.{Row}
 use Rattle.tt_value.specs.values.Bags.{bag_of}
 use Rattle.tt_script.specs.declared.script.Script.{Script}
-use Rattle.tt_history.specs.declared.history.Entry.{Entry}
 use Rattle.tt_plain.specs.declared.store.Plain.{Plain}
 use Rattle.tt_plain.specs.declared.store.PlainOpen.{PlainOpen}
 use Rattle.tt_plain.specs.declared.store.PlainSession.{PlainSession}
@@ -15,9 +14,7 @@ use Rattle.tt_plain.specs.asked.Asked.{Asked, request_asked}
 use Rattle.tt_plain.specs.asked.Carried.{Carried}
 use Rattle.tt_plain.specs.asked.Request.{Request, Writes}
 use Rattle.tt_plain.specs.asked.Turns.{open_asked}
-use Rattle.tt_plain.specs.history.Contents.{contents_of, rows_of_parts}
-use Rattle.tt_plain.specs.history.Replay.{Run, replay_of}
-use Rattle.tt_plain.specs.history.TrueFacts.{EachRemovesTouched}
+use Rattle.tt_plain.specs.history.Contents.{rows_of_parts}
 use Rattle.tt_plain.specs.opening.Seen.{visible_rows}
 use Rattle.tt_plain.specs.stored.Tables.{rows_at}
 use Rattle.tt_plain.specs.tally.Layouts.{parts_at, parts_seen}
@@ -58,8 +55,3 @@ pub record BagsAreFormed (carried : Carried) (program : Script) (contents : List
   pub seen : All (λ found. All (SeenForms contents store found) store.tables) (enumerate_from 0 store.sessions)
   pub pinned : (session index : ℕ) (asked : Asked) (seen : PlainOpen) →
       open_asked carried program store session index ≡ Some (asked, seen) → PinsForm contents asked seen
-
--- the law, to be proved by cases of the last entry
-abbrev pub BagLaw : Type 0
-BagLaw = (carried : Carried) (program : Script) (history : List Entry) (run : Run) → replay_of carried program history ≡ Some run →
-    EachRemovesTouched carried program history → BagsAreFormed carried program (contents_of carried program history) run.0

@@ -2,7 +2,8 @@
 use Rattle.std.specs.Prelude.{Bool, List, None, Option, [], if◌then◌else◌, length, nat_le, ℕ, ◌&&◌, ◌==◌, ◌∷◌}
 use Rattle.tt_value.specs.declared.name.TableName.{TableName}
 use Rattle.tt_value.specs.declared.value.Row.{Row}
-use Rattle.tt_plain.specs.Answers.{only_if, ◌>>=◌}
+use Rattle.tt_script.specs.Lines.{only_if}
+use Rattle.tt_plain.specs.Answers.{◌>>=◌}
 use Rattle.tt_plain.specs.asked.Asked.{Asked, table_asked}
 use Rattle.tt_plain.specs.report.Values.{numbers_row}
 use Rattle.tt_plain.specs.tally.Layouts.{current_parts}

@@ -2,7 +2,7 @@
 use Rattle.std.specs.Prelude.{List, None, Option, [], filter_map, length, nat_le, sum_by, ℕ, ◌&&◌, ◌==◌, ◌∷◌}
 use Rattle.tt_value.specs.declared.value.Row.{Row}
 use Rattle.tt_sql.specs.declared.query.Query.{Query}
-use Rattle.tt_plain.specs.Answers.{only_if}
+use Rattle.tt_script.specs.Lines.{only_if}
 use Rattle.tt_plain.specs.asked.Asked.{Asked}
 use Rattle.tt_plain.specs.opening.Point.{query_sources}
 use Rattle.tt_plain.specs.report.Values.{numbers_row}

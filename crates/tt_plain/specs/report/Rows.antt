@@ -1,7 +1,7 @@
 -- The rows of each report, where the entry's numbers may be what they are. SHOW and the metrics view have no numbers.
 use Rattle.std.specs.Prelude.{List, Option, length, ℕ, ◌==◌}
 use Rattle.tt_value.specs.declared.value.Row.{Row}
-use Rattle.tt_plain.specs.Answers.{only_if}
+use Rattle.tt_script.specs.Lines.{only_if}
 use Rattle.tt_plain.specs.asked.Asked.{Asked}
 use Rattle.tt_plain.specs.asked.Request.{Explains, Gauges, Measures, Shows, Telling}
 use Rattle.tt_plain.specs.report.Depth.{depth_rows}

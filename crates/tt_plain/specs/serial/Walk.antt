@@ -8,7 +8,7 @@ use Rattle.tt_history.specs.declared.history.Entry.{Entry}
 use Rattle.tt_history.specs.declared.history.EntryKind.{EntryKind}
 use Rattle.tt_history.specs.Projection.{is_session}
 use Rattle.tt_plain.specs.declared.store.Plain.{Plain}
-use Rattle.tt_plain.specs.Answers.{only_if}
+use Rattle.tt_script.specs.Lines.{only_if}
 use Rattle.tt_plain.specs.asked.Carried.{Carried}
 use Rattle.tt_plain.specs.cluster.Wanted.{round_wanted}
 use Rattle.tt_plain.specs.effect.End.{kept}

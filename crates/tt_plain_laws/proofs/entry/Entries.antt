@@ -10,7 +10,8 @@ use Rattle.tt_plain.proofs.Tests.{none_is, same_number}
 use Rattle.tt_plain.proofs.law.Gives.{Gives, gives_bind, gives_on, gives_or, gives_tested, gives_when}
 use Rattle.tt_plain.proofs.law.Turns.{next_gives, open_gives}
 use Rattle.tt_plain.proofs.law.session.Alone.{IsDue, IsSaid}
-use Rattle.tt_plain.specs.Answers.{only_if, ◌>>=◌}
+use Rattle.tt_script.specs.Lines.{only_if}
+use Rattle.tt_plain.specs.Answers.{◌>>=◌}
 use Rattle.tt_plain.specs.asked.Asked.{Asked, request_asked}
 use Rattle.tt_plain.specs.asked.Carried.{Carried}
 use Rattle.tt_plain.specs.asked.Turns.{asked_with, open_asked, statement_read}

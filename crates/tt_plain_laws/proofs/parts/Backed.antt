@@ -9,7 +9,7 @@ use Rattle.tt_layout.specs.Numbers.{changed}
 use Rattle.tt_layout.proofs.NetLaws.{unchanged}
 use Rattle.tt_plain.proofs.Answers.{bind_some, only_if_some}
 use Rattle.tt_plain.proofs.Tests.{same_number}
-use Rattle.tt_plain.specs.Answers.{only_if}
+use Rattle.tt_script.specs.Lines.{only_if}
 use Rattle.tt_plain.proofs.law.Lists.{every_at}
 use Rattle.tt_plain.proofs.law.change.Tables.{table_at}
 use Rattle.tt_plain.proofs.law.entry.Rounds.{current_parts_ascend}

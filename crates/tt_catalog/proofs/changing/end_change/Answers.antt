@@ -1,11 +1,11 @@
 use Rattle.std.proofs.Common.{List, Some, [], ◌++◌, ◌∷◌, ap, arith, subst, sym, ◌∙◌}
 use Rattle.tt_history.specs.declared.history.Entry.{Entry}
 use Rattle.tt_history.specs.declared.reply.Reply.TheVariants as reply
-use Rattle.tt_state_parts.proofs.Goes.{GoesOn, goes_on, has_room, made}
-use Rattle.tt_state_parts.proofs.Histories.{early}
-use Rattle.tt_state_parts.specs.Chronicle.{Chronicle}
-use Rattle.tt_state_parts.specs.Kept.{Kept, kept_of}
-use Rattle.tt_state_parts.specs.Moves.{IsReady}
+use Rattle.tt_state.proofs.Goes.{GoesOn, goes_on, has_room, made}
+use Rattle.tt_state.proofs.Histories.{early}
+use Rattle.tt_state.specs.Chronicle.{Chronicle}
+use Rattle.tt_state.specs.Kept.{Kept, kept_of}
+use Rattle.tt_state.specs.Moves.{IsReady}
 use Rattle.tt_catalog.proofs.Changed.{changed_goes, entry_is, is_ready, lands, now_is, plain, same_target}
 use Rattle.tt_catalog.proofs.Inserted.{counts_inserted}
 use Rattle.tt_catalog.specs.Changes.{IsBuiltFor, MadeChange, TellsCount, change_entry}

@@ -1,5 +1,5 @@
 use Rattle.std.proofs.Common.{ap, ◌∙◌}
-use Rattle.tt_state_parts.specs.Moves.{with_ended}
+use Rattle.tt_state.specs.Moves.{with_ended}
 use Rattle.tt_catalog.proofs.Refused.{unpinned_ready}
 use Rattle.tt_catalog.proofs.closing.close_query.Goals as goal
 

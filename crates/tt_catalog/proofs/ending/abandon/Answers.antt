@@ -2,11 +2,11 @@ use Rattle.std.proofs.Common.{◌∷◌, ◌++◌, [], Some, sym, ap, ◌∙◌,
 use Rattle.tt_history.specs.declared.history.EntryKind.TheVariants as kind
 use Rattle.tt_history.specs.declared.history.Told.TheVariants as told
 use Rattle.tt_history.specs.declared.reply.Reply.TheVariants as reply
-use Rattle.tt_state_parts.proofs.Goes.{GoesOn, goes_on, has_room, made}
-use Rattle.tt_state_parts.proofs.Histories.{early, stands_sound}
-use Rattle.tt_state_parts.proofs.Turns.{is_open, ready}
-use Rattle.tt_state_parts.specs.Chronicle.{Chronicle, IsOpenRead, MadeEntry, entry_at, store_of}
-use Rattle.tt_state_parts.specs.Kept.{Kept}
+use Rattle.tt_state.proofs.Goes.{GoesOn, goes_on, has_room, made}
+use Rattle.tt_state.proofs.Histories.{early, stands_sound}
+use Rattle.tt_state.proofs.Turns.{is_open, ready}
+use Rattle.tt_state.specs.Chronicle.{Chronicle, IsOpenRead, MadeEntry, entry_at, store_of}
+use Rattle.tt_state.specs.Kept.{Kept}
 use Rattle.tt_catalog.proofs.Ended.{abandoned_goes}
 use Rattle.tt_catalog.proofs.ending.abandon.Goals as goal
 

@@ -1,6 +1,6 @@
 use Rattle.std.proofs.Common.{List, length, map, ◌++◌, ◌+◌, ap, arith, sym, ◌∙◌}
-use Rattle.tt_state_parts.specs.Kept.{kept_of}
-use Rattle.tt_state_parts.specs.declared.part.StoredPart.{StoredPart}
+use Rattle.tt_state.specs.Kept.{kept_of}
+use Rattle.tt_state.specs.declared.part.StoredPart.{StoredPart}
 use Rattle.tt_catalog.proofs.MayLand.{landed_is, may_begin, told_as}
 use Rattle.tt_catalog.proofs.Numbered.{length-stored}
 use Rattle.tt_catalog.specs.Changes.{stored_from}

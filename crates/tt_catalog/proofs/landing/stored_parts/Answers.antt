@@ -3,7 +3,7 @@ use Rattle.std.proofs.lemmas.Iterator.Adapters.{YieldsList-from_vec}
 use Rattle.std.proofs.lemmas.Iterator.Consumers.{YieldsList-turn}
 use Rattle.tt_partition.specs.Table.{IsPart, Table}
 use Rattle.tt_plain.proofs.law.Lists.{every-append}
-use Rattle.tt_state_parts.specs.declared.part.StoredPart.{StoredPart}
+use Rattle.tt_state.specs.declared.part.StoredPart.{StoredPart}
 use Rattle.tt_catalog.proofs.Numbered.{length-stored, stored_push}
 use Rattle.tt_catalog.specs.Changes.{stored_from}
 use Rattle.tt_catalog.proofs.landing.stored_parts.Goals as goal

@@ -3,11 +3,11 @@ use Rattle.tt_history.specs.declared.history.EntryKind.TheVariants as kind
 use Rattle.tt_history.specs.declared.history.Told.TheVariants as told
 use Rattle.tt_history.specs.declared.reply.Refusal.TheVariants as refusal
 use Rattle.tt_history.specs.declared.reply.Reply.TheVariants as reply
-use Rattle.tt_state_parts.proofs.Goes.{GoesOn, goes_on, has_room, made}
-use Rattle.tt_state_parts.proofs.Histories.{early}
-use Rattle.tt_state_parts.proofs.Turns.{is_next, ready}
-use Rattle.tt_state_parts.specs.Chronicle.{Chronicle, IsNextRead, MadeEntry, entry_at, store_of}
-use Rattle.tt_state_parts.specs.Kept.{Kept}
+use Rattle.tt_state.proofs.Goes.{GoesOn, goes_on, has_room, made}
+use Rattle.tt_state.proofs.Histories.{early}
+use Rattle.tt_state.proofs.Turns.{is_next, ready}
+use Rattle.tt_state.specs.Chronicle.{Chronicle, IsNextRead, MadeEntry, entry_at, store_of}
+use Rattle.tt_state.specs.Kept.{Kept}
 use Rattle.tt_catalog.proofs.Refused.{text_refused}
 use Rattle.tt_catalog.proofs.refusing.refuse_text.Goals as goal
 

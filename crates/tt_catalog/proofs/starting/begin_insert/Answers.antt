@@ -2,11 +2,11 @@ use Rattle.std.proofs.Common.{◌∷◌, ◌++◌, [], Ok, sym, ap, ◌∙◌, s
 use Rattle.tt_history.specs.declared.history.EntryKind.TheVariants as kind
 use Rattle.tt_history.specs.declared.history.Told.{Told}
 use Rattle.tt_plain.specs.Statements.{insertion}
-use Rattle.tt_state_parts.proofs.Goes.{GoesOn, goes_on, has_room, made}
-use Rattle.tt_state_parts.proofs.Histories.{early}
-use Rattle.tt_state_parts.proofs.Turns.{is_next, ready}
-use Rattle.tt_state_parts.specs.Chronicle.{Chronicle, IsNextRead, MadeEntry, entry_at, store_of}
-use Rattle.tt_state_parts.specs.Kept.{Kept}
+use Rattle.tt_state.proofs.Goes.{GoesOn, goes_on, has_room, made}
+use Rattle.tt_state.proofs.Histories.{early}
+use Rattle.tt_state.proofs.Turns.{is_next, ready}
+use Rattle.tt_state.specs.Chronicle.{Chronicle, IsNextRead, MadeEntry, entry_at, store_of}
+use Rattle.tt_state.specs.Kept.{Kept}
 use Rattle.tt_catalog.proofs.Holds.{insert_target}
 use Rattle.tt_catalog.proofs.Opened.{insert_ready, insert_starts, store_then}
 use Rattle.tt_catalog.specs.Starts.{told_by}

@@ -1,6 +1,6 @@
 use Rattle.std.proofs.Common.{length, subst, sym}
-use Rattle.tt_state_parts.specs.Keeps.{ArePartNumbers}
-use Rattle.tt_state_parts.specs.Kept.{kept_of, numbers_now}
+use Rattle.tt_state.specs.Keeps.{ArePartNumbers}
+use Rattle.tt_state.specs.Kept.{kept_of, numbers_now}
 use Rattle.tt_catalog.proofs.Held.{numbers_there}
 use Rattle.tt_catalog.proofs.starting.open_read.Goals as goal
 

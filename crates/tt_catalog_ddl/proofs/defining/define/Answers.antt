@@ -1,10 +1,10 @@
 use Rattle.std.proofs.Common.{◌∷◌, ◌++◌, [], Some, Ok, sym, ap, ◌∙◌, subst, arith}
 use Rattle.tt_history.specs.declared.history.Told.{Told}
 use Rattle.tt_history.specs.declared.history.EntryKind.TheVariants as kind
-use Rattle.tt_state_parts.proofs.Goes.{GoesOn, goes_on, has_room, made}
-use Rattle.tt_state_parts.proofs.Turns.{is_next, ready, said_built}
-use Rattle.tt_state_parts.specs.Chronicle.{Chronicle, IsNextRead, MadeEntry, entry_at, store_of}
-use Rattle.tt_state_parts.specs.Kept.{Kept}
+use Rattle.tt_state.proofs.Goes.{GoesOn, goes_on, has_room, made}
+use Rattle.tt_state.proofs.Turns.{is_next, ready, said_built}
+use Rattle.tt_state.specs.Chronicle.{Chronicle, IsNextRead, MadeEntry, entry_at, store_of}
+use Rattle.tt_state.specs.Kept.{Kept}
 use Rattle.tt_catalog_ddl.proofs.Defined.{defined_goes}
 use Rattle.tt_catalog_ddl.proofs.Lookups.{carried_ready, few_tables, in_clock, names_known}
 use Rattle.tt_catalog_ddl.proofs.defining.define.Goals as goal

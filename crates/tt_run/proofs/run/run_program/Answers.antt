@@ -3,7 +3,7 @@ use Rattle.std.proofs.lemmas.Result.{IfOk-weaker}
 use Rattle.tt_script.specs.declared.script.Script.{Script}
 use Rattle.tt_history.specs.declared.history.Entry.{Entry}
 use Rattle.tt_history.specs.declared.reply.Reply.{Reply}
-use Rattle.tt_state_parts.specs.Chronicle.{Chronicle, store_of}
+use Rattle.tt_state.specs.Chronicle.{Chronicle, store_of}
 use Rattle.tt_journal.specs.Transcript.{IsTranscript as HasText}
 use Rattle.tt_run.specs.Outcomes.{IsFinished, IsInOrder, IsTranscript, Stands}
 use Rattle.tt_run.specs.Turns.{AreAllDone, HasReplies}

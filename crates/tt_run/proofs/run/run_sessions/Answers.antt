@@ -4,8 +4,8 @@ use Rattle.std.proofs.lemmas.Option.{slice_get_read}
 use Rattle.tt_script.specs.declared.script.Script.{Script}
 use Rattle.tt_script.specs.declared.script.SessionText.{SessionText}
 use Rattle.tt_history.specs.declared.reply.Reply.{Reply}
-use Rattle.tt_state_parts.proofs.Owed.{few_statements}
-use Rattle.tt_state_parts.specs.Chronicle.{store_of}
+use Rattle.tt_state.proofs.Owed.{few_statements}
+use Rattle.tt_state.specs.Chronicle.{store_of}
 use Rattle.tt_run.specs.Turns.{HasReplies}
 use Rattle.tt_run.proofs.RunLaws.{all_new, begun, few_statements_in, next_new, none_done, one_more_done, turn_begins, turn_ends}
 use Rattle.tt_run.proofs.run.run_sessions.Goals as goal

@@ -1,5 +1,5 @@
 use Rattle.std.proofs.Common.{◌≡◌}
-use Rattle.tt_state_parts.specs.Chronicle.{store_of}
+use Rattle.tt_state.specs.Chronicle.{store_of}
 use Rattle.tt_run.specs.Sessions.{AreInOrder}
 use Rattle.tt_run.specs.Turns.{AreDone, AreNew, HasReplies}
 use Rattle.tt_run.proofs.run.run_sessions.Given as goal

@@ -1,7 +1,7 @@
 use Rattle.std.proofs.Common.{sym, subst}
 use Rattle.tt_history.specs.declared.reply.Reply.TheVariants as reply
-use Rattle.tt_state_parts.specs.declared.ticket.Ticket.{Ticket}
-use Rattle.tt_state_parts.specs.Chronicle.{Chronicle}
+use Rattle.tt_state.specs.declared.ticket.Ticket.{Ticket}
+use Rattle.tt_state.specs.Chronicle.{Chronicle}
 use Rattle.tt_catalog.specs.Ends.{IsOpenTicket}
 use Rattle.tt_run.specs.Turns.{IsAnswered}
 use Rattle.tt_run.proofs.TurnsLaws.{made_answers}

@@ -1,6 +1,6 @@
 use Rattle.std.proofs.Common.{◌∙◌, Some, ap}
 use Rattle.tt_plain.specs.asked.Turns.{asked_with}
-use Rattle.tt_state_parts.specs.Chronicle.{store_of}
+use Rattle.tt_state.specs.Chronicle.{store_of}
 use Rattle.tt_run.proofs.Requests.{changes_nothing}
 use Rattle.tt_run.proofs.session.run_change.Goals as goal
 

@@ -1,7 +1,7 @@
 use Rattle.std.proofs.Common.{◌∙◌, Some, ap, sym}
 use Rattle.tt_sql.specs.declared.change.InsertSource.TheVariants as source
 use Rattle.tt_plain.specs.asked.Turns.{asked_with}
-use Rattle.tt_state_parts.specs.Chronicle.{store_of}
+use Rattle.tt_state.specs.Chronicle.{store_of}
 use Rattle.tt_built.specs.Built.{has_values}
 use Rattle.tt_run.proofs.Requests.{insert_left, insert_runs}
 use Rattle.tt_run.proofs.session.run_insert.Goals as goal

@@ -1,24 +1,24 @@
 use Rattle.std.proofs.Common.{◌∙◌, Some, ap, sym, subst}
 use Rattle.tt_plain.specs.asked.Turns.{asked_with}
-use Rattle.tt_state_parts.specs.Chronicle.{store_of}
+use Rattle.tt_state.specs.Chronicle.{store_of}
 use Rattle.tt_run.specs.Turns.{IsAnswered}
 use Rattle.tt_run.proofs.Answering.{is_over}
-use Rattle.tt_run.proofs.Requests.{query_left, query_runs, same_query}
+use Rattle.tt_run.proofs.Requests.{query_left, query_runs}
 use Rattle.tt_run.proofs.TurnsLaws.{made_goes_on, made_answers, then_answers}
 use Rattle.tt_run.proofs.session.run_query.Goals as goal
 
 pub refuse_text-requires : goal.refuse_text-requires
 refuse_text-requires c =
-    c.requires ∙ ap (λ read. Some (asked_with c.args.cat.now.program (store_of c.args.cat.now) c.args.session c.args.index read)) (query_left c.args.query.now (sym (same_query c.args.query.now) ∙ (sym c.plain_query.ensures ∙ c.if-not-plain_query.true)))
+    c.requires ∙ ap (λ read. Some (asked_with c.args.cat.now.program (store_of c.args.cat.now) c.args.session c.args.index read)) (query_left c.args.query.now (sym c.plain_query.ensures ∙ c.if-not-plain_query.true))
 
 pub begin_query-requires : goal.begin_query-requires
 begin_query-requires c =
-    c.requires ∙ ap (λ read. Some (asked_with c.args.cat.now.program (store_of c.args.cat.now) c.args.session c.args.index read)) (query_runs c.args.query.now (sym (same_query c.args.query.now) ∙ (sym c.plain_query.ensures ∙ c.if-not-plain_query.false)))
+    c.requires ∙ ap (λ read. Some (asked_with c.args.cat.now.program (store_of c.args.cat.now) c.args.session c.args.index read)) (query_runs c.args.query.now (sym c.plain_query.ensures ∙ c.if-not-plain_query.false))
 
 pub answer_query-requires-clause-reads : goal.answer_query-requires-clause-reads
 answer_query-requires-clause-reads c =
     let given = c.in-Ticket.ensures in
-    is_over c.begin_query.new.cat c.in-Ticket.ticket c.args.query.now given.source.0 (sym (same_query c.args.query.now) ∙ (sym c.plain_query.ensures ∙ c.if-not-plain_query.false)) given.ticket.2 given.source.1
+    is_over c.begin_query.new.cat c.in-Ticket.ticket c.args.query.now given.source.0 (sym c.plain_query.ensures ∙ c.if-not-plain_query.false) given.ticket.2 given.source.1
 
 pub returns-in-Refused : goal.returns-in-Refused
 returns-in-Refused c = made_answers _ _ _ _ _ _ tt c.in-Refused.ensures.entry.1

@@ -1,5 +1,5 @@
 use Rattle.std.proofs.Common.{subst}
-use Rattle.tt_state_parts.specs.Chronicle.{Chronicle}
+use Rattle.tt_state.specs.Chronicle.{Chronicle}
 use Rattle.tt_run.specs.Outcomes.{Stands}
 use Rattle.tt_run.proofs.session.stands.Goals as goal
 

@@ -1,6 +1,0 @@
-use Rattle.std.proofs.Common.{◌≡◌, take, map}
-use Rattle.tt_plain.specs.CreateTable.{column_made}
-use Rattle.tt_state.proofs.definitions.make_columns.Given as goal
-
-abbrev pub invariant-loop-definition : goal.invariant-loop-definition
-invariant-loop-definition l = l.columns.items ≡ map column_made (take l.definition-index l.definitions)

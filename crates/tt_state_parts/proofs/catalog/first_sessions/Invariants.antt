@@ -1,6 +1,0 @@
-use Rattle.std.proofs.Common.{◌≡◌, take, map}
-use Rattle.tt_state_parts.specs.Moves.{no_session}
-use Rattle.tt_state_parts.proofs.catalog.first_sessions.Given as goal
-
-abbrev pub invariant-loop-lines : goal.invariant-loop-lines
-invariant-loop-lines l = l.sessions.items ≡ map (λ _. no_session) (take l._lines-index l.program.sessions)

@@ -1,7 +1,0 @@
-//! Tests of histories and of the catalog.
-#![tactic(auto)]
-
-#[cfg(test)]
-mod catalog;
-#[cfg(test)]
-mod histories;
