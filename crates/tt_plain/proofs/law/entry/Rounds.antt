@@ -91,9 +91,10 @@ module _ (carried : Carried) (program : Script) (store : Plain) (sound : IsSound
       gives_bind Sound (table_numbered store number) _ (λ table there.
       gives_tested Sound (may_be_reclustered store table && may_take store.tally number parts) table _ (λ free.
       gives_bind Sound table.key _ (λ key has_key. λ time.
-      let up = and_parts (is_ascending parts) _ (and_parts (is_ascending parts && nat_le 2 (length parts)) _ (and_parts (is_ascending parts && nat_le 2 (length parts) && nat_le (length parts) 16) _
-      (and_parts (may_be_reclustered store table) (may_take store.tally number parts) free).1).0).0 in
-      worker_sound carried program store (StartsRound (record { table = number; key = key; parts = parts }) ∷ []) sound time (ascends parts up.0, tt) refl))))
+      let taken = (and_parts (may_be_reclustered store table) (may_take store.tally number parts) free).1 in
+      let counted = (and_parts (nat_le 1 number && is_ascending parts && nat_le 2 (length parts) && nat_le (length parts) 16) _ taken).0 in
+      let up = and_parts (nat_le 1 number) (is_ascending parts) (and_parts (nat_le 1 number && is_ascending parts) _ (and_parts (nat_le 1 number && is_ascending parts && nat_le 2 (length parts)) _ counted).0).0 in
+      worker_sound carried program store (StartsRound (record { table = number; key = key; parts = parts }) ∷ []) sound time (ascends parts up.1, tt) refl))))
 
   pub round_end_sound : (index table : ℕ) (gone : List ℕ) (added : List Added) → Gives Sound (round_end_effect store index table gone added)
   unfolding round_end_effect
