@@ -43,7 +43,7 @@ use Rattle.tt_plain.specs.tally.Layouts.{is_ascending, parts_seen}
 use Rattle.tt_plain.specs.tally.Parts.{numbers_added, rows_in_added, rows_in_parts}
 use Rattle.tt_built.proofs.Reaches.{insert_built}
 use Rattle.tt_built.specs.Built.{built, is_plain_insert}
-use Rattle.tt_state.proofs.Goes.{GoesOn, alone_now, ended_less, idle_now, marks_now, sessions_now}
+use Rattle.tt_state.proofs.Goes.{GoesOn, added_behind, alone_now, ended_less, idle_now, marks_now, sessions_now}
 use Rattle.tt_state.proofs.Histories.{early}
 use Rattle.tt_state.proofs.Pins.{other_pins, own_pins, pins_left}
 use Rattle.tt_state.proofs.Steps.{end_is, end_step}
@@ -59,6 +59,7 @@ use Rattle.tt_state.specs.declared.ticket.Seen.{Seen}
 use Rattle.tt_state.specs.declared.ticket.Ticket.{Ticket}
 use Rattle.tt_history.specs.declared.history.Actor.TheVariants as actor
 use Rattle.tt_history.specs.declared.history.EntryKind.TheVariants as kind
+use Rattle.tt_sql.specs.declared.statement.Statement.{Statement}
 use Rattle.tt_sql.specs.declared.statement.Statement.TheVariants as tree
 use Rattle.tt_catalog.proofs.Cuts.{all_counted, are_cut, have_kinds, pieces_are_parts, size_of, sizes_told}
 use Rattle.tt_catalog.proofs.Ended.{closed, opened, others_stay, own_released, points_at, sound}
@@ -68,7 +69,7 @@ use Rattle.tt_catalog.proofs.MayLand.{may_land}
 use Rattle.tt_catalog.proofs.Numbered.{are_next, both_true, numbers_told}
 use Rattle.tt_catalog.proofs.Tallied.{IsTallied, tallied, tally_after}
 use Rattle.tt_catalog.proofs.Versions.{committed_versions, same_length}
-use Rattle.tt_catalog.specs.Changes.{IsBuiltFor, change_asked, change_entry, facts_from, next_part, numbers_behind, with_changed, with_landed}
+use Rattle.tt_catalog.specs.Changes.{IsBuiltFor, change_asked, change_entry, facts_from, next_part, numbers_behind, stored_from, with_changed, with_landed}
 use Rattle.tt_catalog.specs.Ends.{with_given_up}
 use Rattle.tt_catalog.specs.Landing.{MayLand}
 use Rattle.tt_catalog.specs.Tickets.{HasTarget, IsTargetOf}
@@ -76,14 +77,14 @@ use Rattle.tt_history.specs.declared.reply.Reply.TheVariants as reply
 
 -- ---- the target of a ticket
 
-pub record IsTarget (chronicle : Chronicle) (seen : Option (ℕ × List Row)) (held : Seen) : Type 0 where
+pub record IsTarget (chronicle : Chronicle) (statement : Statement) (seen : Option (ℕ × List Row)) (held : Seen) : Type 0 where
   pub target : ℕ × List Row
   pub is : seen ≡ Some target
-  pub tied : IsTargetOf chronicle target held
+  pub tied : IsTargetOf chronicle statement target held
 
-target_tied : (chronicle : Chronicle) (seen : Option (ℕ × List Row)) (held : Seen) → HasTarget chronicle seen (Some held) → IsTarget chronicle seen held
-target_tied chronicle None held has = absurd has
-target_tied chronicle (Some target) held has = record { target = target; is = refl; tied = has }
+target_tied : (chronicle : Chronicle) (statement : Statement) (seen : Option (ℕ × List Row)) (held : Seen) → HasTarget chronicle statement seen (Some held) → IsTarget chronicle statement seen held
+target_tied chronicle statement None held has = absurd has
+target_tied chronicle statement (Some target) held has = record { target = target; is = refl; tied = has }
 
 -- a table that has a schema is there, and its schema is this one
 schema_is : (store : Plain) (table : ℕ) (schema : Schema) → schema_numbered store table ≡ Some schema → schema_at store.tables table ≡ schema
@@ -144,8 +145,8 @@ module _ (chronicle : Chronicle) (kept : Kept) (room : ℕ) (ticket : Ticket) (w
 
   -- ---- its target
 
-  held_target : IsTarget chronicle seen.target is.held
-  held_target = target_tied chronicle seen.target is.held (subst (HasTarget chronicle seen.target) is.target is.is_ticket.target)
+  held_target : IsTarget chronicle (tree.Dml is.change) seen.target is.held
+  held_target = target_tied chronicle (tree.Dml is.change) seen.target is.held (subst (HasTarget chronicle (tree.Dml is.change) seen.target) is.target is.is_ticket.target)
 
   schema_there : schema_at store.tables table ≡ is.held.schema
   schema_there = ap (schema_at store.tables) held_target.tied.table ∙ schema_is store held_target.target.0 is.held.schema held_target.tied.schema
@@ -299,7 +300,7 @@ module _ (chronicle : Chronicle) (kept : Kept) (room : ℕ) (ticket : Ticket) (w
   abbrev now : Kept
   now = with_changed chronicle.program kept session index table what.gone what.added
 
-  pub changed_goes : Every IsPart what.added → (later : Plain) × GoesOn chronicle now entry later (Some (reply.Inserted what.count))
+  pub changed_goes : Every IsPart what.added → (later : Plain) × GoesOn chronicle kept now entry later (Some (reply.Inserted what.count))
   unfolding applied committed_alone
   changed_goes parts =
       let versioned = committed_versions store asked.moment pending in (
@@ -309,6 +310,7 @@ module _ (chronicle : Chronicle) (kept : Kept) (room : ℕ) (ticket : Ticket) (w
           less = ended_less chronicle.program store next session index is_opened.lines is_opened.state given is_opened.turn refl refl refl;
           few = omega (arith, same_length store.tables next.tables versioned);
           true_entry = is_true_entry;
+          parts = added_behind kept.parts (stored_from table (length kept.parts + 1) what.added);
           tables = subst (λ (contents : List (List Row)). KeepsTables next.tables after contents now) (sym contents_are)
               (landed_tables store.moment (length store.tables) store.tables next.tables store.tally after (rows_of chronicle) kept session table what.gone what.added stands.tables
               is_sound.tables versioned is_tallied in_tables.0 in_tables.1 of_kinds chronicle.program index);

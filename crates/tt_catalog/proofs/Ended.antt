@@ -26,7 +26,7 @@ use Rattle.tt_plain.specs.stored.Sessions.{session_at}
 use Rattle.tt_plain.specs.tally.Changes.{with_pins}
 use Rattle.tt_built.specs.Built.{built}
 use Rattle.tt_state.proofs.Ended.{closed_at, state_is}
-use Rattle.tt_state.proofs.Goes.{GoesOn, alone_now, ended_less, idle_now, marks_now, same_marks, sessions_now, tables_stay}
+use Rattle.tt_state.proofs.Goes.{GoesOn, alone_now, ended_less, idle_now, marks_now, parts_stay, same_marks, sessions_now, tables_stay}
 use Rattle.tt_state.proofs.Histories.{contents_same, stands_sound}
 use Rattle.tt_state.proofs.Filters.{filter_keeps, filter_none}
 use Rattle.tt_state.proofs.Pins.{not_own, other_pins, own_gone, own_pins, pins_left}
@@ -93,7 +93,7 @@ module _ (chronicle : Chronicle) (kept : Kept) (room session index : ℕ) (read 
   abbrev now_abandoned : Kept
   now_abandoned = with_ended chronicle.program (with_unpinned (with_released kept session) session) session index
 
-  pub abandoned_goes : (after : Plain) × GoesOn chronicle now_abandoned (entry_at store.moment session index (kind.Abandon told.Memory)) after (Some reply.Memory)
+  pub abandoned_goes : (after : Plain) × GoesOn chronicle kept now_abandoned (entry_at store.moment session index (kind.Abandon told.Memory)) after (Some reply.Memory)
   unfolding applied ended_with
   abandoned_goes =
       let entry = entry_at store.moment session index (kind.Abandon told.Memory) in (
@@ -103,6 +103,7 @@ module _ (chronicle : Chronicle) (kept : Kept) (room session index : ℕ) (read 
           less = ended_less chronicle.program store abandoned session index opened.lines opened.state given opened.turn refl refl refl;
           few = omega arith;
           true_entry = adds_no_part built chronicle.program chronicle.cap (rows_of chronicle) store entry refl tt tt;
+          parts = parts_stay kept.parts kept.parts refl;
           tables = tables_stay store.tables store.tally (record store.tally { pins = with_pins session [] store.tally.pins }) (rows_of chronicle) (contents_with built chronicle.program (rows_of chronicle) (store, entry)) kept now_abandoned
               stands.tables refl refl (contents_same built chronicle.program (rows_of chronicle) (store, entry) refl) refl refl refl;
           sessions = record {
@@ -154,7 +155,7 @@ module _ (chronicle : Chronicle) (kept : Kept) (room session index : ℕ) (q : Q
       ap (λ b. fold changed_point q_store.points (if b then [] else (point_place chronicle.program session index, q_store.moment + 1) ∷ []))
       (closed chronicle kept room session index (Ok (tree.Query q)) seen stands found)
 
-  pub answered_goes : answer_seen q_store seen q ≡ Some rows → (after : Plain) × GoesOn chronicle now_answered (entry_at q_store.moment session index (kind.End [] [])) after (Some (reply.Rows rows))
+  pub answered_goes : answer_seen q_store seen q ≡ Some rows → (after : Plain) × GoesOn chronicle kept now_answered (entry_at q_store.moment session index (kind.End [] [])) after (Some (reply.Rows rows))
   unfolding applied
   answered_goes e =
       let entry = entry_at q_store.moment session index (kind.End [] []) in (
@@ -164,6 +165,7 @@ module _ (chronicle : Chronicle) (kept : Kept) (room session index : ℕ) (q : Q
           less = ended_less chronicle.program q_store q_after session index q_opened.lines q_opened.state q_done q_opened.turn refl refl refl;
           few = omega arith;
           true_entry = adds_no_part built chronicle.program chronicle.cap (rows_of chronicle) q_store entry refl removes_none tt;
+          parts = parts_stay kept.parts kept.parts refl;
           tables = tables_stay q_store.tables q_store.tally (record q_store.tally { pins = with_pins session [] q_store.tally.pins }) (rows_of chronicle) (contents_with built chronicle.program (rows_of chronicle) (q_store, entry)) kept now_answered
               stands.tables refl refl (contents_same built chronicle.program (rows_of chronicle) (q_store, entry) refl) refl refl refl;
           sessions = record {

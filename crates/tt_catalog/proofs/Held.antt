@@ -138,8 +138,7 @@ formed chronicle kept room stands =
     (legal_bags built chronicle.program chronicle.history run (in_time chronicle kept room stands) stands.legal.replayed stands.true_facts.removed)
 
 pub bags_held : (chronicle : Chronicle) (kept : Kept) (room session index : ℕ) (s : Statement) (seen : PlainOpen) (held : List Seen) → StandsFor chronicle kept room → IsOpenRead chronicle session index (Ok s) seen
-    → seen_in_pins (request_in s) seen ≡ seen.sources → AllZip (IsHeld chronicle) (pins_of (store_of chronicle).tally session) held → AllZip StandsForRows seen.sources held
-bags_held chronicle kept room session index s seen held stands opened sources holds =
+    → AllZip (IsHeld chronicle) (pins_of (store_of chronicle).tally session) held → AllZip StandsForRows (seen_in_pins (request_in s) seen) held
+bags_held chronicle kept room session index s seen held stands opened holds =
     let forms = (formed chronicle kept room stands).pinned session index (asked_with chronicle.program (store_of chronicle) session index (Ok s)) seen opened in
-    stand_for chronicle seen.sources (pins_of (store_of chronicle).tally session) held
-    (subst (λ xs. AllZip (PinForms (rows_of chronicle)) xs (pins_of (store_of chronicle).tally session)) sources forms) holds
+    stand_for chronicle (seen_in_pins (request_in s) seen) (pins_of (store_of chronicle).tally session) held forms holds

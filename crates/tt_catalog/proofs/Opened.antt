@@ -33,7 +33,7 @@ use Rattle.tt_plain.specs.refusal.First.{refusal_of}
 use Rattle.tt_plain.specs.stored.Points.{point_place}
 use Rattle.tt_plain.specs.stored.Sessions.{session_at}
 use Rattle.tt_built.specs.Built.{built}
-use Rattle.tt_state.proofs.Goes.{GoesOn}
+use Rattle.tt_state.proofs.Goes.{GoesOn, with_history}
 use Rattle.tt_state.proofs.Histories.{store_longer}
 use Rattle.tt_state.proofs.Pins.{pins_now}
 use Rattle.tt_state.proofs.Turns.{is_next, said_built}
@@ -57,22 +57,19 @@ use Rattle.tt_catalog.proofs.Started.{begun_effect, begun_goes, begun_open, begu
 use Rattle.tt_catalog.specs.Starts.{IsAccepted, OpensChanged, OpensRead, StartsInsert, StartsQuery, held_empty, held_whole, pin_whole, refusal_over, ticket_with, told_by, with_pin, with_shared, with_started}
 use Rattle.tt_catalog.specs.Tickets.{BeginsTyped, GivesTicket, IsHeld, IsTicketOf, reply_to_start}
 
-abbrev pub at_history : Chronicle → List Entry → Chronicle
-at_history chronicle history = record { program = chronicle.program; cap = chronicle.cap; history = history }
-
 -- a start with its entry, the ticket that it gives once that is made, and its typing
-pub record Starts (chronicle : Chronicle) (middle : Kept) (session index : ℕ) (s : Statement) (begun : Started) : Type 0 where
+pub record Starts (chronicle : Chronicle) (kept middle : Kept) (session index : ℕ) (s : Statement) (begun : Started) : Type 0 where
   pub after : Plain
-  pub goes : GoesOn chronicle (with_started chronicle.program middle session index begun) (entry_at (store_of chronicle).moment session index (kind.Start (told_by begun))) after (reply_to_start begun)
-  pub gives : (history : List Entry) (left : ℕ) → StandsFor (at_history chronicle history) (with_started chronicle.program middle session index begun) left → store_of (at_history chronicle history) ≡ after
-      → GivesTicket (at_history chronicle history) session index s begun
+  pub goes : GoesOn chronicle kept (with_started chronicle.program middle session index begun) (entry_at (store_of chronicle).moment session index (kind.Start (told_by begun))) after (reply_to_start begun)
+  pub gives : (history : List Entry) (left : ℕ) (now : Kept) → StandsFor (with_history chronicle history now) (with_started chronicle.program middle session index begun) left → store_of (with_history chronicle history now) ≡ after
+      → GivesTicket (with_history chronicle history now) session index s begun
   pub typed : BeginsTyped s begun
 
 -- the store once the entry is made
-pub store_then : (chronicle : Chronicle) (now : Kept) (entry : Entry) (after : Plain) (told : Option Reply) (history : List Entry) → GoesOn chronicle now entry after told
-    → history ≡ chronicle.history ++ entry ∷ [] → store_of (at_history chronicle history) ≡ after
-store_then chronicle now entry after told history goes longer =
-    ap (λ (h : List Entry). store_of (at_history chronicle h)) longer ∙ store_longer built chronicle.program chronicle.history entry (after, told) goes.step
+pub store_then : (chronicle : Chronicle) (kept now : Kept) (entry : Entry) (after : Plain) (told : Option Reply) (history : List Entry) → GoesOn chronicle kept now entry after told
+    → history ≡ chronicle.history ++ entry ∷ [] → store_of (with_history chronicle history now) ≡ after
+store_then chronicle kept now entry after told history goes longer =
+    ap (λ (h : List Entry). store_of (with_history chronicle h now)) longer ∙ store_longer built chronicle.program chronicle.history entry (after, told) goes.step
 
 -- the schema of a table that is there stays
 schema_there : (new : Chronicle) (store : Plain) (plain : PlainTable) → (store_of new).tables ≡ store.tables → IsTable store plain → schema_numbered (store_of new) plain.number ≡ Some plain.schema
@@ -122,16 +119,16 @@ module _ (chronicle : Chronicle) (kept : Kept) (room session index : ℕ) (q : Q
     unfolding query_opened rows_seen
     q_effect = rw (found, stands.sessions.settled) refl
 
-    q_goes : GoesOn chronicle (with_begun chronicle.program q_middle session index) (entry_at q_store.moment session index (kind.Start told.Done)) (begun_store chronicle session index q_statement q_seen q_marks q_pins) None
+    q_goes : GoesOn chronicle kept (with_begun chronicle.program q_middle session index) (entry_at q_store.moment session index (kind.Start told.Done)) (begun_store chronicle session index q_statement q_seen q_marks q_pins) None
     q_goes =
         begun_goes chronicle kept room session index q.first.table q_statement stands read q_over refl q_seen q_marks q_pins kept.marks (kept.pins ++ q_pins) refl accepted.free q_effect (refl, tt)
         (one_pin session q_store.tally kept.pins (pin_whole session q_table) refl stands.sessions.pins (unpinned chronicle kept room session index q.first.table q_statement stands read))
         (stands.sessions.marks session) (λ other ne. refl)
 
-    q_gives : (history : List Entry) (left : ℕ) → StandsFor (at_history chronicle history) (with_begun chronicle.program q_middle session index) left
-        → store_of (at_history chronicle history) ≡ begun_store chronicle session index q_statement q_seen q_marks q_pins → IsTicketOf (at_history chronicle history) (ticket_with session index q_held None) q_statement
-    q_gives history left now_stands is =
-        let new = at_history chronicle history in
+    q_gives : (history : List Entry) (left : ℕ) (now : Kept) → StandsFor (with_history chronicle history now) (with_begun chronicle.program q_middle session index) left
+        → store_of (with_history chronicle history now) ≡ begun_store chronicle session index q_statement q_seen q_marks q_pins → IsTicketOf (with_history chronicle history now) (ticket_with session index q_held None) q_statement
+    q_gives history left now now_stands is =
+        let new = with_history chronicle history now in
         let then = with_begun chronicle.program q_middle session index in
         let open_now : IsOpenRead new session index (Ok q_statement) q_seen =
         subst (λ (store : Plain). open_asked built chronicle.program store session index ≡ Some (asked_with chronicle.program store session index (Ok q_statement), q_seen)) (sym is)
@@ -151,45 +148,45 @@ module _ (chronicle : Chronicle) (kept : Kept) (room session index : ℕ) (q : Q
         record {
           seen = q_seen;
           is_open = open_now;
-          sources = sources;
-          bags = bags_held new then left session index q_statement q_seen q_held now_stands open_now refl sources;
+          pinned = sources;
+          bags = bags_held new then left session index q_statement q_seen q_held now_stands open_now sources;
           target = tt;
         }
 
-  query_begins : (middle : Kept) (sources : List Seen) → OpensRead kept middle session (plain_query q) sources → Starts chronicle middle session index q_statement (started.Ticket (ticket_with session index sources None))
+  query_begins : (middle : Kept) (sources : List Seen) → OpensRead kept middle session (plain_query q) sources → Starts chronicle kept middle session index q_statement (started.Ticket (ticket_with session index sources None))
   query_begins middle sources opens =
       let table = table_is chronicle kept room session index q.first.table q_statement stands read q_over opens.table opens.accepted in
       let plain = table.0 in
       let accepted = subst (IsAccepted kept q.first.table q_statement) table.2 opens.accepted in
       let middle_is : with_pin kept session (table_of q_store.tally plain) ≡ middle = ap (with_pin kept session) (sym table.2) ∙ sym opens.kept_is in
       let sources_are : held_whole kept.parts (table_of q_store.tally plain) ∷ [] ≡ sources = ap (λ t. held_whole kept.parts t ∷ []) (sym table.2) ∙ sym opens.holds in
-      subst (λ (m : Kept). Starts chronicle m session index q_statement (started.Ticket (ticket_with session index sources None))) middle_is
-      (subst (λ (held : List Seen). Starts chronicle (with_pin kept session (table_of q_store.tally plain)) session index q_statement (started.Ticket (ticket_with session index held None))) sources_are
+      subst (λ (m : Kept). Starts chronicle kept m session index q_statement (started.Ticket (ticket_with session index sources None))) middle_is
+      (subst (λ (held : List Seen). Starts chronicle kept (with_pin kept session (table_of q_store.tally plain)) session index q_statement (started.Ticket (ticket_with session index held None))) sources_are
       (record {
         after = begun_store chronicle session index q_statement (q_seen plain table.1 table.3 accepted) (q_marks plain table.1 table.3 accepted) (q_pins plain table.1 table.3 accepted);
         goes = q_goes plain table.1 table.3 accepted;
-        gives = λ history left now_stands is. (refl, refl, q_gives plain table.1 table.3 accepted history left now_stands is);
+        gives = λ history left now now_stands is. (refl, refl, q_gives plain table.1 table.3 accepted history left now now_stands is);
         typed = typed_over kept q.first.table q_statement (table_of q_store.tally plain) accepted;
       }))
 
-  query_by : (middle : Kept) (begun : Started) → StartsQuery kept middle session index (plain_query q) begun → Starts chronicle middle session index q_statement begun
+  query_by : (middle : Kept) (begun : Started) → StartsQuery kept middle session index (plain_query q) begun → Starts chronicle kept middle session index q_statement begun
   query_by middle (started.Ticket ticket) out =
-      subst (λ (t : Ticket). Starts chronicle middle session index q_statement (started.Ticket t)) (sym out.1) (query_begins middle out.0 out.2)
+      subst (λ (t : Ticket). Starts chronicle kept middle session index q_statement (started.Ticket t)) (sym out.1) (query_begins middle out.0 out.2)
   query_by middle (started.Refused why) out =
       let goes = refused_goes chronicle kept room session index q.first.table q_statement stands read q_over refl why out.0 in
-      subst (λ (m : Kept). Starts chronicle m session index q_statement (started.Refused why)) (sym out.1)
-      (record { after = goes.0; goes = goes.1; gives = λ history left now_stands is. tt; typed = tt })
+      subst (λ (m : Kept). Starts chronicle kept m session index q_statement (started.Refused why)) (sym out.1)
+      (record { after = goes.0; goes = goes.1; gives = λ history left now now_stands is. tt; typed = tt })
   query_by middle started.Memory out =
       let goes = starved_goes chronicle kept room session index q.first.table q_statement stands read q_over refl in
-      subst (λ (m : Kept). Starts chronicle m session index q_statement started.Memory) (sym out)
-      (record { after = goes.0; goes = goes.1; gives = λ history left now_stands is. tt; typed = tt })
+      subst (λ (m : Kept). Starts chronicle kept m session index q_statement started.Memory) (sym out)
+      (record { after = goes.0; goes = goes.1; gives = λ history left now now_stands is. tt; typed = tt })
 
 pub query_starts : (chronicle : Chronicle) (kept middle : Kept) (room session index : ℕ) (q : Query) (begun : Started) → StandsFor chronicle kept room → IsNextRead chronicle session index (Ok (tree.Query q))
-    → StartsQuery kept middle session index q begun → Starts chronicle middle session index (tree.Query q) begun
+    → StartsQuery kept middle session index q begun → Starts chronicle kept middle session index (tree.Query q) begun
 query_starts chronicle kept middle room session index q begun stands read out =
     let next = is_next chronicle.program (store_of chronicle) session index _ read in
     let plain : q ≡ plain_query q = query_is q (said_built chronicle.program session index (tree.Query q) next.said) in
-    subst (λ (x : Query). IsNextRead chronicle session index (Ok (tree.Query x)) → StartsQuery kept middle session index x begun → Starts chronicle middle session index (tree.Query x) begun) (sym plain)
+    subst (λ (x : Query). IsNextRead chronicle session index (Ok (tree.Query x)) → StartsQuery kept middle session index x begun → Starts chronicle kept middle session index (tree.Query x) begun) (sym plain)
     (λ there opens. query_by chronicle kept room session index q stands there middle begun opens) read out
 
 -- ---- an INSERT of written rows
@@ -232,16 +229,16 @@ module _ (chronicle : Chronicle) (kept : Kept) (room session index : ℕ) (i : I
         own_shared session plain.number kept.marks (unmarked_kept chronicle kept room session index i.table i_statement stands read)
         ∙ ap (λ marks. map (mark_of session) (with_mark plain.number false marks)) (sym (unmarked chronicle kept room session index i.table i_statement stands read))
 
-    i_goes : GoesOn chronicle (with_begun chronicle.program i_middle session index) (entry_at i_store.moment session index (kind.Start told.Done)) (begun_store chronicle session index i_statement i_seen i_marks []) None
+    i_goes : GoesOn chronicle kept (with_begun chronicle.program i_middle session index) (entry_at i_store.moment session index (kind.Start told.Done)) (begun_store chronicle session index i_statement i_seen i_marks []) None
     i_goes =
         begun_goes chronicle kept room session index i.table i_statement stands read i_over refl i_seen i_marks [] (shared session plain.number kept.marks) kept.pins refl accepted.free i_effect tt
         (pins_now session i_store.tally [] kept.pins kept.pins tt stands.sessions.pins (stands.sessions.pins session ∙ unpinned chronicle kept room session index i.table i_statement stands read) (λ other ne. refl))
         own_marks (λ other ne. others_shared session plain.number other kept.marks (unmarked_kept chronicle kept room session index i.table i_statement stands read) ne)
 
-    i_gives : (history : List Entry) (left : ℕ) → StandsFor (at_history chronicle history) (with_begun chronicle.program i_middle session index) left
-        → store_of (at_history chronicle history) ≡ begun_store chronicle session index i_statement i_seen i_marks [] → IsTicketOf (at_history chronicle history) (ticket_with session index [] (Some (held_empty i_table))) i_statement
-    i_gives history left now_stands is =
-        let new = at_history chronicle history in
+    i_gives : (history : List Entry) (left : ℕ) (now : Kept) → StandsFor (with_history chronicle history now) (with_begun chronicle.program i_middle session index) left
+        → store_of (with_history chronicle history now) ≡ begun_store chronicle session index i_statement i_seen i_marks [] → IsTicketOf (with_history chronicle history now) (ticket_with session index [] (Some (held_empty i_table))) i_statement
+    i_gives history left now now_stands is =
+        let new = with_history chronicle history now in
         let then = with_begun chronicle.program i_middle session index in
         let open_now : IsOpenRead new session index (Ok i_statement) i_seen =
         subst (λ (store : Plain). open_asked built chronicle.program store session index ≡ Some (asked_with chronicle.program store session index (Ok i_statement), i_seen)) (sym is)
@@ -257,44 +254,44 @@ module _ (chronicle : Chronicle) (kept : Kept) (room session index : ℕ) (i : I
         record {
           seen = i_seen;
           is_open = open_now;
-          sources = sources;
-          bags = bags_held new then left session index i_statement i_seen none now_stands open_now refl sources;
-          target = record { table = refl; schema = schema_there new i_store plain tables_are there; parts = refl };
+          pinned = sources;
+          bags = bags_held new then left session index i_statement i_seen none now_stands open_now sources;
+          target = record { table = refl; schema = schema_there new i_store plain tables_are there; parts = λ none. refl };
         }
 
-  insert_begins : (middle : Kept) (target : Seen) → OpensChanged kept middle session (record i { source = source.Values tuples }) target → Starts chronicle middle session index i_statement (started.Ticket (ticket_with session index [] (Some target)))
+  insert_begins : (middle : Kept) (target : Seen) → OpensChanged kept middle session (record i { source = source.Values tuples }) target → Starts chronicle kept middle session index i_statement (started.Ticket (ticket_with session index [] (Some target)))
   insert_begins middle target opens =
       let table = table_is chronicle kept room session index i.table i_statement stands read i_over opens.table opens.accepted in
       let plain = table.0 in
       let accepted = subst (IsAccepted kept i.table i_statement) table.2 opens.accepted in
       let middle_is : with_shared kept session (table_of i_store.tally plain) ≡ middle = ap (with_shared kept session) (sym table.2) ∙ sym opens.kept_is in
       let target_is : held_empty (table_of i_store.tally plain) ≡ target = ap held_empty (sym table.2) ∙ sym opens.holds in
-      subst (λ (m : Kept). Starts chronicle m session index i_statement (started.Ticket (ticket_with session index [] (Some target)))) middle_is
-      (subst (λ (held : Seen). Starts chronicle (with_shared kept session (table_of i_store.tally plain)) session index i_statement (started.Ticket (ticket_with session index [] (Some held)))) target_is
+      subst (λ (m : Kept). Starts chronicle kept m session index i_statement (started.Ticket (ticket_with session index [] (Some target)))) middle_is
+      (subst (λ (held : Seen). Starts chronicle kept (with_shared kept session (table_of i_store.tally plain)) session index i_statement (started.Ticket (ticket_with session index [] (Some held)))) target_is
       (record {
         after = begun_store chronicle session index i_statement (i_seen plain table.1 table.3 accepted) (i_marks plain table.1 table.3 accepted) [];
         goes = i_goes plain table.1 table.3 accepted;
-        gives = λ history left now_stands is. (refl, refl, i_gives plain table.1 table.3 accepted history left now_stands is);
+        gives = λ history left now now_stands is. (refl, refl, i_gives plain table.1 table.3 accepted history left now now_stands is);
         typed = typed_over kept i.table i_statement (table_of i_store.tally plain) accepted;
       }))
 
-  insert_by : (middle : Kept) (begun : Started) → StartsInsert kept middle session index (record i { source = source.Values tuples }) begun → Starts chronicle middle session index i_statement begun
+  insert_by : (middle : Kept) (begun : Started) → StartsInsert kept middle session index (record i { source = source.Values tuples }) begun → Starts chronicle kept middle session index i_statement begun
   insert_by middle (started.Ticket ticket) out =
-      subst (λ (t : Ticket). Starts chronicle middle session index i_statement (started.Ticket t)) (sym out.1) (insert_begins middle out.0 out.2)
+      subst (λ (t : Ticket). Starts chronicle kept middle session index i_statement (started.Ticket t)) (sym out.1) (insert_begins middle out.0 out.2)
   insert_by middle (started.Refused why) out =
       let goes = refused_goes chronicle kept room session index i.table i_statement stands read i_over refl why out.0 in
-      subst (λ (m : Kept). Starts chronicle m session index i_statement (started.Refused why)) (sym out.1)
-      (record { after = goes.0; goes = goes.1; gives = λ history left now_stands is. tt; typed = tt })
+      subst (λ (m : Kept). Starts chronicle kept m session index i_statement (started.Refused why)) (sym out.1)
+      (record { after = goes.0; goes = goes.1; gives = λ history left now now_stands is. tt; typed = tt })
   insert_by middle started.Memory out =
       let goes = starved_goes chronicle kept room session index i.table i_statement stands read i_over refl in
-      subst (λ (m : Kept). Starts chronicle m session index i_statement started.Memory) (sym out)
-      (record { after = goes.0; goes = goes.1; gives = λ history left now_stands is. tt; typed = tt })
+      subst (λ (m : Kept). Starts chronicle kept m session index i_statement started.Memory) (sym out)
+      (record { after = goes.0; goes = goes.1; gives = λ history left now now_stands is. tt; typed = tt })
 
 pub insert_starts : (chronicle : Chronicle) (kept middle : Kept) (room session index : ℕ) (i : Insert) (tuples : List Tuple) (begun : Started) → StandsFor chronicle kept room → IsNextRead chronicle session index (Ok (insertion i))
-    → InsertsTuples i tuples → StartsInsert kept middle session index i begun → Starts chronicle middle session index (insertion i) begun
+    → InsertsTuples i tuples → StartsInsert kept middle session index i begun → Starts chronicle kept middle session index (insertion i) begun
 insert_starts chronicle kept middle room session index i tuples begun stands read values out =
     let plain : i ≡ record i { source = source.Values tuples } = ap (λ (s : InsertSource). record i { source = s }) values in
-    subst (λ (x : Insert). IsNextRead chronicle session index (Ok (insertion x)) → StartsInsert kept middle session index x begun → Starts chronicle middle session index (insertion x) begun) (sym plain)
+    subst (λ (x : Insert). IsNextRead chronicle session index (Ok (insertion x)) → StartsInsert kept middle session index x begun → Starts chronicle kept middle session index (insertion x) begun) (sym plain)
     (λ there opens. insert_by chronicle kept room session index i tuples stands there middle begun opens) read out
 
 -- ---- a statement that is ready still is, once its start is made but for its entry

@@ -35,7 +35,7 @@ module _ (chronicle : Chronicle) (kept : Kept) (room session index place : ℕ) 
   unfolding refusal_of
   refused_as = refl
 
-  pub text_refused : (after : Plain) × GoesOn chronicle (with_ended chronicle.program kept session index) (entry_at store.moment session index (kind.Start (told.Refused 1))) after (Some (reply.Refused (refusal.Syntax place)))
+  pub text_refused : (after : Plain) × GoesOn chronicle kept (with_ended chronicle.program kept session index) (entry_at store.moment session index (kind.Start (told.Refused 1))) after (Some (reply.Refused (refusal.Syntax place)))
   unfolding ended_with
   text_refused = (
     applied store (ended_with asked (reply.Refused (refusal.Syntax place))),

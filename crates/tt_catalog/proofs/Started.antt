@@ -42,7 +42,7 @@ use Rattle.tt_script.specs.declared.script.Script.{Script}
 use Rattle.tt_built.specs.Built.{built}
 use Rattle.tt_state.proofs.Ended.{closed_at, ended_goes, state_is}
 use Rattle.tt_state.proofs.Filters.{filter_all, filter_out}
-use Rattle.tt_state.proofs.Goes.{GoesOn, alone_now, begun_less, idle_now, marks_now, sessions_now, tables_stay}
+use Rattle.tt_state.proofs.Goes.{GoesOn, alone_now, begun_less, idle_now, marks_now, parts_stay, sessions_now, tables_stay}
 use Rattle.tt_state.proofs.Histories.{contents_same, stands_sound}
 use Rattle.tt_state.proofs.Lists.{all_behind, set_same}
 use Rattle.tt_state.proofs.Lookups.{found_at, live_tied}
@@ -161,7 +161,7 @@ module _ (chronicle : Chronicle) (kept : Kept) (room session index : ℕ) (name 
     module _ (due : is_same_event event.Start (first_event (state_asked asked).transaction (request_asked asked)) ≡ true) where
       -- refused, or without memory
       pub refused_goes : (why : Refusal) → refusal_kept kept name s ≡ Some why
-          → (after : Plain) × GoesOn chronicle (with_ended chronicle.program kept session index) (entry_at store.moment session index (kind.Start (told.Refused (refusal_number why)))) after (Some (reply.Refused why))
+          → (after : Plain) × GoesOn chronicle kept (with_ended chronicle.program kept session index) (entry_at store.moment session index (kind.Start (told.Refused (refusal_number why)))) after (Some (reply.Refused why))
       unfolding ended_with
       refused_goes why e = (
         applied store (ended_with asked (reply.Refused why)),
@@ -170,7 +170,7 @@ module _ (chronicle : Chronicle) (kept : Kept) (room session index : ℕ) (name 
             (start_refused asked due why (sym refused_as ∙ e)) refl) refl (moves_none (told.Refused (refusal_number why))),
       )
 
-      pub starved_goes : (after : Plain) × GoesOn chronicle (with_ended chronicle.program kept session index) (entry_at store.moment session index (kind.Start told.Memory)) after (Some reply.Memory)
+      pub starved_goes : (after : Plain) × GoesOn chronicle kept (with_ended chronicle.program kept session index) (entry_at store.moment session index (kind.Start told.Memory)) after (Some reply.Memory)
       unfolding ended_with
       starved_goes = (
         applied store (ended_with asked reply.Memory),
@@ -200,7 +200,7 @@ module _ (chronicle : Chronicle) (kept : Kept) (room session index : ℕ) (name 
         pub begun_goes : seen.index ≡ index → refusal_kept kept name s ≡ None → begun_by asked (request_asked asked) ≡ Some (begun_effect chronicle session index s seen marks pins)
             → Every (IsPinOf session) pins → ArePins (record store.tally { pins = with_pins session pins store.tally.pins }) now_pins
             → marks_of session now_marks ≡ map (mark_of session) marks → ((other : ℕ) → other ≢ session → marks_of other now_marks ≡ marks_of other kept.marks)
-            → GoesOn chronicle now (entry_at store.moment session index (kind.Start told.Done)) store_then None
+            → GoesOn chronicle kept now (entry_at store.moment session index (kind.Start told.Done)) store_then None
         unfolding applied
         begun_goes numbered free effect own pinned marked others =
             let entry = entry_at store.moment session index (kind.Start told.Done) in
@@ -209,6 +209,7 @@ module _ (chronicle : Chronicle) (kept : Kept) (room session index : ℕ) (name 
               less = begun_less chronicle.program store store_then session index next.lines next.state state_then next.turn refl next.idle refl (ap (λ (state : PlainSession). state.done) at);
               few = omega arith;
               true_entry = moves_none told.Done;
+              parts = parts_stay kept.parts kept.parts refl;
               tables = tables_stay store.tables store.tally (record store.tally { pins = with_pins session pins store.tally.pins }) (rows_of chronicle) (contents_with built chronicle.program (rows_of chronicle) (store, entry)) kept now
                   stands.tables refl refl (contents_same built chronicle.program (rows_of chronicle) (store, entry) refl) refl refl refl;
               sessions = record {

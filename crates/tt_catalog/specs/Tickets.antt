@@ -1,10 +1,13 @@
 -- Tickets of open statements: the tables that they hold, with the parts that are pinned for them.
 use Rattle.std.specs.List.{AllZip}
-use Rattle.std.specs.Prelude.{List, None, Ok, Option, Some, [], map, option_to_list, ℕ, ⊤, ◌++◌, ◌∷◌, ◌≡◌}
+use Rattle.std.specs.Prelude.{Bool, List, None, Ok, Option, Some, [], false, if◌then◌else◌, map, option_to_list, true, ℕ, ⊤, ◌++◌, ◌∷◌, ◌≡◌}
 use Rattle.tt_value.specs.declared.value.Row.{Row}
 use Rattle.tt_value.specs.declared.value.Schema.{Schema}
 use Rattle.tt_value.specs.values.Bags.{bag_of}
+use Rattle.tt_sql.specs.asked.Request.{request_in}
+use Rattle.tt_sql.specs.declared.change.Dml.TheVariants as dml
 use Rattle.tt_sql.specs.declared.statement.Statement.{Statement}
+use Rattle.tt_sql.specs.declared.statement.Statement.TheVariants as tree
 use Rattle.tt_history.specs.declared.history.Told.{Told}
 use Rattle.tt_history.specs.declared.reply.Reply.{Reply}
 use Rattle.tt_partition.specs.Cuts.{table_with}
@@ -13,7 +16,7 @@ use Rattle.tt_plain.specs.TypingRefusal.{typing_refusal}
 use Rattle.tt_plain.specs.declared.store.PlainOpen.{PlainOpen}
 use Rattle.tt_plain.specs.declared.tally.TallyPin.{TallyPin}
 use Rattle.tt_plain.specs.history.Contents.{rows_numbered}
-use Rattle.tt_plain.specs.law.Bag.{pins_of}
+use Rattle.tt_plain.specs.law.Bag.{pins_of, seen_in_pins}
 use Rattle.tt_plain.specs.meaning.Outcome.{schema_numbered}
 use Rattle.tt_state.specs.Held.{rows_held, schemas_held}
 use Rattle.tt_state.specs.Chronicle.{Chronicle, IsOpenRead, MadeEntry, entry_at, rows_of, store_of}
@@ -40,27 +43,38 @@ pub record IsHeld (chronicle : Chronicle) (pin : TallyPin) (held : Seen) : Type 
 abbrev pub StandsForRows : ℕ × List Row → Seen → Type 0
 StandsForRows seen held = (held.table ≡ seen.0) × (bag_of (rows_held held) ≡ seen.1)
 
--- of the target of an INSERT no part is held
-pub record IsTargetOf (chronicle : Chronicle) (seen : ℕ × List Row) (held : Seen) : Type 0 where
+-- an UPDATE and a DELETE read their target
+abbrev pub reads_target : Statement → Bool
+reads_target (tree.Dml (dml.Update u)) = true
+reads_target (tree.Dml (dml.Delete d)) = true
+reads_target _ = false
+
+-- of the target of any other change no part is held
+pub record IsTargetOf (chronicle : Chronicle) (statement : Statement) (seen : ℕ × List Row) (held : Seen) : Type 0 where
   pub table : held.table ≡ seen.0
   pub schema : schema_numbered (store_of chronicle) seen.0 ≡ Some held.schema
-  pub parts : held.parts ≡ []
+  pub parts : reads_target statement ≡ false → held.parts ≡ []
 
 -- the target of the ticket is that of the open statement, if it has one
-abbrev pub HasTarget : Chronicle → Option (ℕ × List Row) → Option Seen → Type 0
-HasTarget chronicle None None = ⊤
-HasTarget chronicle (Some seen) (Some held) = IsTargetOf chronicle seen held
-HasTarget chronicle _ _ = ⊥
+abbrev pub HasTarget : Chronicle → Statement → Option (ℕ × List Row) → Option Seen → Type 0
+HasTarget chronicle statement None None = ⊤
+HasTarget chronicle statement (Some seen) (Some held) = IsTargetOf chronicle statement seen held
+HasTarget chronicle statement _ _ = ⊥
 
 -- ---- tickets
 
--- The ticket is that of its session's open statement, which is this one.
+-- the tables whose rows a statement reads: its sources, or its target
+abbrev pub tables_read : Statement → Ticket → List Seen
+tables_read statement ticket = if reads_target statement then option_to_list ticket.target else ticket.sources
+
+-- The ticket is that of its session's open statement, which is this one. Held are just the parts that are pinned for it, and they form
+-- what it sees.
 pub record IsTicketOf (chronicle : Chronicle) (ticket : Ticket) (statement : Statement) : Type 0 where
   pub seen : PlainOpen
   pub is_open : IsOpenRead chronicle ticket.session ticket.index (Ok statement) seen
-  pub sources : AllZip (IsHeld chronicle) (pins_of (store_of chronicle).tally ticket.session) ticket.sources
-  pub bags : AllZip StandsForRows seen.sources ticket.sources
-  pub target : HasTarget chronicle seen.target ticket.target
+  pub pinned : AllZip (IsHeld chronicle) (pins_of (store_of chronicle).tally ticket.session) (tables_read statement ticket)
+  pub bags : AllZip StandsForRows (seen_in_pins (request_in statement) seen) (tables_read statement ticket)
+  pub target : HasTarget chronicle statement seen.target ticket.target
 
 -- the schemas of its tables, in the order in which the statement names them
 abbrev pub schemas_of : Ticket → List Schema

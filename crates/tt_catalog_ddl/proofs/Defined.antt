@@ -30,7 +30,7 @@ use Rattle.tt_plain.specs.tally.Changes.{MakesTable, TallyChange}
 use Rattle.tt_names.specs.Changes.{bound}
 use Rattle.tt_built.specs.Built.{built}
 use Rattle.tt_state.proofs.Ended.{closed_at, ended_goes, state_is}
-use Rattle.tt_state.proofs.Goes.{GoesOn, alone_now, ended_less, idle_now, same_marks, sessions_now}
+use Rattle.tt_state.proofs.Goes.{GoesOn, alone_now, ended_less, idle_now, parts_stay, same_marks, sessions_now}
 use Rattle.tt_state.proofs.Histories.{contents_same, stands_sound}
 use Rattle.tt_state.proofs.Lookups.{live_tied}
 use Rattle.tt_state.proofs.Refusals.{create_asked, create_is, create_over, create_refusal, plain_create}
@@ -90,7 +90,7 @@ module _ (chronicle : Chronicle) (kept : Kept) (room session index : ℕ) (c : C
   -- ---- refused, or without memory
 
   pub refused_goes : (why : Refusal) → refusal_kept kept create (tree.Create create) ≡ Some why
-      → (after : Plain) × GoesOn chronicle (with_ended chronicle.program kept session index) (entry_at store.moment session index (kind.Define (told.Refused (refusal_number why)))) after (Some (reply.Refused why))
+      → (after : Plain) × GoesOn chronicle kept (with_ended chronicle.program kept session index) (entry_at store.moment session index (kind.Define (told.Refused (refusal_number why)))) after (Some (reply.Refused why))
   unfolding ended_with
   refused_goes why e = (
     applied store (ended_with asked (reply.Refused why)),
@@ -99,7 +99,7 @@ module _ (chronicle : Chronicle) (kept : Kept) (room session index : ℕ) (c : C
         (define_refused asked (CreatesTable create) closed refl why (sym refused_as ∙ e)) refl) refl (moves_none (told.Refused (refusal_number why))),
   )
 
-  pub starved_goes : (after : Plain) × GoesOn chronicle (with_ended chronicle.program kept session index) (entry_at store.moment session index (kind.Define told.Memory)) after (Some reply.Memory)
+  pub starved_goes : (after : Plain) × GoesOn chronicle kept (with_ended chronicle.program kept session index) (entry_at store.moment session index (kind.Define told.Memory)) after (Some reply.Memory)
   unfolding ended_with
   starved_goes = (
     applied store (ended_with asked reply.Memory),
@@ -150,7 +150,7 @@ module _ (chronicle : Chronicle) (kept : Kept) (room session index : ℕ) (c : C
       tables_made chronicle.program store (rows_of chronicle) kept now made (store.moment + 1) sound stands.tables refl refl (free_name e)
       (ap (λ t. kept.tables ++ t ∷ []) table_is) (ap (λ n. bound create.table.name.text (n + 1) kept.names) many) refl
 
-  pub made_goes : refusal_kept kept create (tree.Create create) ≡ None → (after : Plain) × GoesOn chronicle now (entry_at store.moment session index (kind.Define told.Done)) after (Some reply.Ok)
+  pub made_goes : refusal_kept kept create (tree.Create create) ≡ None → (after : Plain) × GoesOn chronicle kept now (entry_at store.moment session index (kind.Define told.Done)) after (Some reply.Ok)
   unfolding applied ended_with
   made_goes e =
       let at : session_at store session ≡ next.state = state_is store session next.state next.turn.state_is in
@@ -161,6 +161,7 @@ module _ (chronicle : Chronicle) (kept : Kept) (room session index : ℕ) (c : C
           less = ended_less chronicle.program store defined_store session index next.lines next.state done next.turn refl refl refl;
           few = omega (arith, length_push store.tables made);
           true_entry = moves_none told.Done;
+          parts = parts_stay kept.parts kept.parts refl;
           tables = subst (λ (rows : List (List Row)). KeepsTables (store.tables ++ made ∷ []) (more store.tally (store.moment + 1)) rows now) (sym (contents_same built chronicle.program (rows_of chronicle) (store, entry) refl)) (made_tables e);
           sessions = record {
             moment = ap (λ m. m + 1) stands.sessions.moment;
@@ -177,12 +178,12 @@ module _ (chronicle : Chronicle) (kept : Kept) (room session index : ℕ) (c : C
 
 -- ---- all ways
 
-abbrev Goes : Chronicle → Kept → ℕ → ℕ → Told → Reply → Type 0
-Goes chronicle middle session index t answer =
-    (after : Plain) × GoesOn chronicle (with_ended chronicle.program middle session index) (entry_at (store_of chronicle).moment session index (kind.Define t)) after (Some answer)
+abbrev Goes : Chronicle → (kept middle : Kept) → ℕ → ℕ → Told → Reply → Type 0
+Goes chronicle kept middle session index t answer =
+    (after : Plain) × GoesOn chronicle kept (with_ended chronicle.program middle session index) (entry_at (store_of chronicle).moment session index (kind.Define t)) after (Some answer)
 
 by_told : (chronicle : Chronicle) (kept middle : Kept) (room session index : ℕ) (c : CreatedTable) (t : Told) (answer : Reply) → StandsFor chronicle kept room
-    → IsNextRead chronicle session index (Ok (tree.Create (plain_create c))) → Creates kept (plain_create c) middle t answer → Goes chronicle middle session index t answer
+    → IsNextRead chronicle session index (Ok (tree.Create (plain_create c))) → Creates kept (plain_create c) middle t answer → Goes chronicle kept middle session index t answer
 by_told chronicle kept middle room session index c told.Done answer stands read out =
     rw (out.1, out.2) (made_goes chronicle kept room session index c stands read out.0)
 by_told chronicle kept middle room session index c (told.Refused number) answer stands read out =
@@ -191,11 +192,11 @@ by_told chronicle kept middle room session index c told.Memory answer stands rea
     rw (out.0, out.1) (starved_goes chronicle kept room session index c stands read)
 
 pub defined_goes : (chronicle : Chronicle) (kept middle : Kept) (room session index : ℕ) (statement : Statement) (t : Told) (answer : Reply) → StandsFor chronicle kept room
-    → IsNextRead chronicle session index (Ok statement) → CarriesOut kept statement middle t answer → Goes chronicle middle session index t answer
+    → IsNextRead chronicle session index (Ok statement) → CarriesOut kept statement middle t answer → Goes chronicle kept middle session index t answer
 defined_goes chronicle kept middle room session index statement t answer stands read out =
     let c = out.0 in
     let here : IsNextRead chronicle session index (Ok (tree.Create c)) = subst (λ (s : Statement). IsNextRead chronicle session index (Ok s)) out.1 read in
     let next = is_next chronicle.program (store_of chronicle) session index _ here in
     let plain : c ≡ plain_create c = create_is c (said_built chronicle.program session index (tree.Create c) next.said) in
-    subst (λ (x : CreatedTable). IsNextRead chronicle session index (Ok (tree.Create x)) → Creates kept x middle t answer → Goes chronicle middle session index t answer) (sym plain)
+    subst (λ (x : CreatedTable). IsNextRead chronicle session index (Ok (tree.Create x)) → Creates kept x middle t answer → Goes chronicle kept middle session index t answer) (sym plain)
     (λ there made. by_told chronicle kept middle room session index c t answer stands there made) here out.2

@@ -53,7 +53,7 @@ is_over chronicle ticket query held plain is one = record {
   over = record {
     joins = (is_whole query plain).joins_are;
     one = ap (λ (seen : List Seen). length seen) one;
-    parts = held_fits chronicle _ ticket.sources is.sources;
+    parts = held_fits chronicle _ ticket.sources is.pinned;
     names = knows_names (query_scope (schemas_held ticket.sources) query) query (is_whole query plain);
   };
 }

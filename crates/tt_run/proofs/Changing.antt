@@ -69,10 +69,10 @@ read_written program session index s e =
 
 -- ---- the table of a target
 
-target_is : (chronicle : Chronicle) (seen : Option (ℕ × List Row)) (target : Option Seen) (held : Seen) → target ≡ Some held → HasTarget chronicle seen target → (s : ℕ × List Row) × (seen ≡ Some s) × IsTargetOf chronicle s held
-target_is chronicle seen None held is has = absurd (none-some held is)
-target_is chronicle None (Some other) held is has = absurd has
-target_is chronicle (Some s) (Some other) held is has = (s, refl, subst (IsTargetOf chronicle s) (same_Some other held is) has)
+target_is : (chronicle : Chronicle) (statement : Statement) (seen : Option (ℕ × List Row)) (target : Option Seen) (held : Seen) → target ≡ Some held → HasTarget chronicle statement seen target → (s : ℕ × List Row) × (seen ≡ Some s) × IsTargetOf chronicle statement s held
+target_is chronicle statement seen None held is has = absurd (none-some held is)
+target_is chronicle statement None (Some other) held is has = absurd has
+target_is chronicle statement (Some s) (Some other) held is has = (s, refl, subst (IsTargetOf chronicle statement s) (same_Some other held is) has)
 
 -- the ticket of an INSERT that has begun holds its target alone
 pub is_writing : (ticket : Ticket) (insert : Insert) (held : Seen) → ticket.sources ≡ [] → ticket.target ≡ Some held → typing_refusal (schemas_of ticket) (insertion insert) ≡ None → IsWriting ticket insert
@@ -97,10 +97,10 @@ module _ (chronicle : Chronicle) (ticket : Ticket) (insert : Insert) (stands : S
   store = store_of chronicle
 
   sound : IsSound built chronicle.program store
-  sound = stands_sound chronicle stands.0 stands.1 stands.2
+  sound = stands_sound chronicle chronicle.kept stands.0 stands.1
 
-  target : (s : ℕ × List Row) × (is.seen.target ≡ Some s) × IsTargetOf chronicle s writes.held
-  target = target_is chronicle is.seen.target ticket.target writes.held writes.target is.target
+  target : (s : ℕ × List Row) × (is.seen.target ≡ Some s) × IsTargetOf chronicle (insertion insert) s writes.held
+  target = target_is chronicle (insertion insert) is.seen.target ticket.target writes.held writes.target is.target
 
   table : (table : PlainTable) × (table_numbered store target.0.0 ≡ Some table) × (table.schema ≡ writes.held.schema)
   table = map_some (λ (table : PlainTable). table.schema) (table_numbered store target.0.0) writes.held.schema target.2.schema
@@ -110,9 +110,9 @@ module _ (chronicle : Chronicle) (ticket : Ticket) (insert : Insert) (stands : S
 
   columns : (1 ≤ length writes.held.schema.columns) × (length writes.held.schema.columns ≤ 32)
   columns =
-      let run = stands.2.legal.run in
-      let same = store_is built chronicle.program chronicle.history run stands.2.legal.replayed in
-      let all = legal_columns built chronicle.program chronicle.history run (in_time chronicle stands.0 stands.1 stands.2) stands.2.legal.replayed in
+      let run = stands.1.legal.run in
+      let same = store_is built chronicle.program chronicle.history run stands.1.legal.replayed in
+      let all = legal_columns built chronicle.program chronicle.history run (in_time chronicle chronicle.kept stands.0 stands.1) stands.1.legal.replayed in
       let here : HasColumns table.0 = every_at HasColumns run.0.tables (target.0.0 - 1) table.0 all (ap (λ (s : Plain). table_numbered s target.0.0) (sym same) ∙ table.1) in
       subst (λ (schema : Schema). (1 ≤ length schema.columns) × (length schema.columns ≤ 32)) table.2 here
 

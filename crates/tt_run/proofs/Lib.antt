@@ -6,6 +6,7 @@ pub mod Kept
 pub mod Left
 pub mod Requests
 pub mod RunLaws
+pub mod Stored
 pub mod Stores
 pub mod Texts
 pub mod TurnsLaws

@@ -25,9 +25,9 @@ use Rattle.tt_run.specs.Turns.{AreDone, AreNew, HasReplies, InTurn, KeepsOthers}
 
 -- ---- the beginning
 
-pub begun : (book : Chronicle) → book.history ≡ [] → HasReplies book []
+pub begun : (chronicle : Chronicle) → chronicle.history ≡ [] → HasReplies chronicle []
 unfolding replay_of replay_from
-begun book none = record { run = (empty_store book.program, []); replayed = ap (λ (h : List Entry). replay_of built book.program h) none; given = refl }
+begun chronicle none = record { run = (empty_store chronicle.program, []); replayed = ap (λ (h : List Entry). replay_of built chronicle.program h) none; given = refl }
 
 new_at : (all : List SessionText) (session : ℕ) → session < length all → slice_get (map (λ (_ : SessionText). new_session) all) session ≡ Some new_session
 new_at [] session less = absurd (omega (arith, less))
@@ -38,10 +38,10 @@ empty_new : (program : Script) → AreNew program (empty_store program) 0
 unfolding empty_store
 empty_new program session from less = record { state = new_session; there = new_at program.sessions session less; counted = refl; running = refl; transaction = refl }
 
-pub all_new : (program : Script) (book : Chronicle) → book.program ≡ program → book.history ≡ [] → AreNew program (store_of book) 0
+pub all_new : (program : Script) (chronicle : Chronicle) → chronicle.program ≡ program → chronicle.history ≡ [] → AreNew program (store_of chronicle) 0
 unfolding store_after
-all_new program book same none =
-    subst (λ (s : Plain). AreNew program s 0) (ap empty_store (sym same) ∙ ap (λ (h : List Entry). store_after built book.program h) (sym none)) (empty_new program)
+all_new program chronicle same none =
+    subst (λ (s : Plain). AreNew program s 0) (ap empty_store (sym same) ∙ ap (λ (h : List Entry). store_after built chronicle.program h) (sym none)) (empty_new program)
 
 pub none_done : (program : Script) (store : Plain) → AreDone program store 0
 none_done program store = λ session lines less at. absurd (omega (arith, less))
@@ -53,12 +53,12 @@ append_nil [] = refl
 append_nil (x ∷ xs) = ap (λ ys. x ∷ ys) (append_nil xs)
 
 -- so far it has no entry
-pub turn_begins : (program : Script) (book : Chronicle) (session : ℕ) → book.program ≡ program → AreInOrder program session book.history → InTurn book session
-turn_begins program book session same order = record {
-  before = book.history;
+pub turn_begins : (program : Script) (chronicle : Chronicle) (session : ℕ) → chronicle.program ≡ program → AreInOrder program session chronicle.history → InTurn chronicle session
+turn_begins program chronicle session same order = record {
+  before = chronicle.history;
   own = [];
-  parts = sym (append_nil book.history);
-  first = subst (λ (p : Script). AreInOrder p session book.history) (sym same) order;
+  parts = sym (append_nil chronicle.history);
+  first = subst (λ (p : Script). AreInOrder p session chronicle.history) (sym same) order;
   of = tt;
 }
 
@@ -71,14 +71,14 @@ idle_finished program store session lines at idle state there =
     ∙ ap (λ b. idle.state.done == count_in (slice_get program.sessions session) && not b) idle.transaction
     ∙ ap (λ b. b && true) (ap (λ n. n == count_in (slice_get program.sessions session)) idle.counted ∙ ap (λ (o : Option SessionText). length lines.statements == count_in o) at ∙ same_test (length lines.statements))
 
-pub turn_ends : (program : Script) (book : Chronicle) (session : ℕ) (lines : SessionText) → book.program ≡ program → slice_get program.sessions session ≡ Some lines → InTurn book session → IsIdle (store_of book) session (length lines.statements) → AreInOrder program (session + 1) book.history
-turn_ends program book session lines same at turn idle =
-    let finished : is_finished book.program session (session_at (store_of book) session) ≡ true =
-    ap (λ (o : Option PlainSession). is_finished book.program session (unwrap_or o new_session)) idle.there
-    ∙ idle_finished book.program (store_of book) session lines (ap (λ (p : Script). slice_get p.sessions session) same ∙ at) idle idle.state idle.there in
-    let ordered : AreInOrder book.program (suc session) book.history = (turn, finished) in
+pub turn_ends : (program : Script) (chronicle : Chronicle) (session : ℕ) (lines : SessionText) → chronicle.program ≡ program → slice_get program.sessions session ≡ Some lines → InTurn chronicle session → IsIdle (store_of chronicle) session (length lines.statements) → AreInOrder program (session + 1) chronicle.history
+turn_ends program chronicle session lines same at turn idle =
+    let finished : is_finished chronicle.program session (session_at (store_of chronicle) session) ≡ true =
+    ap (λ (o : Option PlainSession). is_finished chronicle.program session (unwrap_or o new_session)) idle.there
+    ∙ idle_finished chronicle.program (store_of chronicle) session lines (ap (λ (p : Script). slice_get p.sessions session) same ∙ at) idle idle.state idle.there in
+    let ordered : AreInOrder chronicle.program (suc session) chronicle.history = (turn, finished) in
     let count : suc session ≡ session + 1 = omega arith in
-    subst (λ n. AreInOrder program n book.history) count (subst (λ (p : Script). AreInOrder p (suc session) book.history) same ordered)
+    subst (λ n. AreInOrder program n chronicle.history) count (subst (λ (p : Script). AreInOrder p (suc session) chronicle.history) same ordered)
 
 -- the later ones are new
 pub next_new : (program : Script) (old new : Plain) (session : ℕ) → AreNew program old session → KeepsOthers old new session → AreNew program new (session + 1)

@@ -27,9 +27,9 @@ read_of program session place text e =
     ∙ ap (λ t. Some (carried_out built (statement_of t))) span.2
 
 -- what becomes of an idle session's next statement
-pub next_read : (book : Chronicle) (session place : ℕ) (text : List ℕ) (read : Result Statement ℕ) → IsIdle (store_of book) session place → Some text ≡ option_map (text_at book.program) (span_of book.program session place) → read ≡ statement_of text → IsNextRead book session (place + 1) (carried_out built read)
-next_read book session place text read idle e is =
-    idle_next book session place (carried_out built read) idle (read_of book.program session place text e ∙ ap (λ r. Some (carried_out built r)) (sym is))
+pub next_read : (chronicle : Chronicle) (session place : ℕ) (text : List ℕ) (read : Result Statement ℕ) → IsIdle (store_of chronicle) session place → Some text ≡ option_map (text_at chronicle.program) (span_of chronicle.program session place) → read ≡ statement_of text → IsNextRead chronicle session (place + 1) (carried_out built read)
+next_read chronicle session place text read idle e is =
+    idle_next chronicle session place (carried_out built read) idle (read_of chronicle.program session place text e ∙ ap (λ r. Some (carried_out built r)) (sym is))
 
 -- ---- the text of a program is the script that it was read from, which has no turns
 

@@ -110,16 +110,16 @@ then_answers old middle new session index answer begun answered = record {
 
 -- ---- a session between its statements
 
-pub idle_alone : (book : Chronicle) (session done : ℕ) → IsIdle (store_of book) session done → IsAlone book session
-idle_alone book session done idle = ap (λ (o : Option PlainSession). (unwrap_or o new_session).transaction) idle.there ∙ idle.transaction
+pub idle_alone : (chronicle : Chronicle) (session done : ℕ) → IsIdle (store_of chronicle) session done → IsAlone chronicle session
+idle_alone chronicle session done idle = ap (λ (o : Option PlainSession). (unwrap_or o new_session).transaction) idle.there ∙ idle.transaction
 
 -- an idle session's next statement
-pub idle_next : (book : Chronicle) (session done : ℕ) (read : Result Statement ℕ) → IsIdle (store_of book) session done → statement_read built book.program session (done + 1) ≡ Some read → IsNextRead book session (done + 1) read
+pub idle_next : (chronicle : Chronicle) (session done : ℕ) (read : Result Statement ℕ) → IsIdle (store_of chronicle) session done → statement_read built chronicle.program session (done + 1) ≡ Some read → IsNextRead chronicle session (done + 1) read
 unfolding next_asked
-idle_next book session done read idle said =
-    let store = store_of book in
+idle_next chronicle session done read idle said =
+    let store = store_of chronicle in
     let test : is_idle_before (done + 1) idle.state ≡ true =
     ap (λ (o : Option PlainOpen). is_none o && done + 1 == idle.state.done + 1) idle.running ∙ ap (λ n. done + 1 == n + 1) idle.counted ∙ same_test (done + 1) in
-    ap (λ (o : Option PlainSession). o >>= λ state. only_if (is_idle_before (done + 1) state) state >>= λ idle. statement_read built book.program session (done + 1) >>= λ r. Some (asked_with book.program store session (done + 1) r)) idle.there
-    ∙ ap (λ b. only_if b idle.state >>= λ idle. statement_read built book.program session (done + 1) >>= λ r. Some (asked_with book.program store session (done + 1) r)) test
-    ∙ ap (λ (o : Option (Result Statement ℕ)). o >>= λ r. Some (asked_with book.program store session (done + 1) r)) said
+    ap (λ (o : Option PlainSession). o >>= λ state. only_if (is_idle_before (done + 1) state) state >>= λ idle. statement_read built chronicle.program session (done + 1) >>= λ r. Some (asked_with chronicle.program store session (done + 1) r)) idle.there
+    ∙ ap (λ b. only_if b idle.state >>= λ idle. statement_read built chronicle.program session (done + 1) >>= λ r. Some (asked_with chronicle.program store session (done + 1) r)) test
+    ∙ ap (λ (o : Option (Result Statement ℕ)). o >>= λ r. Some (asked_with chronicle.program store session (done + 1) r)) said

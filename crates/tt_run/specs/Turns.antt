@@ -12,18 +12,18 @@ use Rattle.tt_state.specs.Chronicle.{Chronicle, store_of}
 use Rattle.tt_run.specs.Sessions.{AreInOrder, Behind, IsIdle}
 
 -- the catalog's history is legal, and these are the replies that the statements got in it
-pub record HasReplies (book : Chronicle) (replies : List Reply) : Type 0 where
+pub record HasReplies (chronicle : Chronicle) (replies : List Reply) : Type 0 where
   pub run : Run
-  pub replayed : replay_of built book.program book.history ≡ Some run
+  pub replayed : replay_of built chronicle.program chronicle.history ≡ Some run
   pub given : given_replies run.1 ≡ replies
 
 -- a session makes its entries, and those before it have made theirs
 abbrev pub InTurn : Chronicle → ℕ → Type 0
-InTurn book session = Behind (AreInOrder book.program session) session book.history
+InTurn chronicle session = Behind (AreInOrder chronicle.program session) session chronicle.history
 
 -- the session has no transaction
 abbrev pub IsAlone : Chronicle → ℕ → Type 0
-IsAlone book session = (session_at (store_of book) session).transaction ≡ false
+IsAlone chronicle session = (session_at (store_of chronicle) session).transaction ≡ false
 
 -- no other session has moved
 abbrev pub KeepsOthers : Plain → Plain → ℕ → Type 0

@@ -56,7 +56,7 @@ fn run_session(
     requires turn { InTurn cat.old session }
     requires replies { HasReplies cat.old replies.old.items }
     ensures program { OnOk result (cat.new.program ≡ program.now) }
-    ensures rows { OnOk result (cat.new.cap ≡ cat.old.cap) }
+    ensures cap { OnOk result (cat.new.cap ≡ cat.old.cap) }
     ensures replies { OnOk result (HasReplies cat.new replies.new.items) }
     ensures turn { OnOk result (InTurn cat.new session) }
     ensures others { OnOk result (KeepsOthers (store_of cat.old) (store_of cat.new) session) }
@@ -79,7 +79,7 @@ fn run_sessions(
     requires short { length program.now.text < 2 ^ 32 }
     requires history { cat.old.history ≡ [] }
     ensures program { IfOk result (λ _. cat.new.program ≡ program.now) }
-    ensures rows { IfOk result (λ _. cat.new.cap ≡ cat.old.cap) }
+    ensures cap { IfOk result (λ _. cat.new.cap ≡ cat.old.cap) }
     ensures replies { IfOk result (λ replies. HasReplies cat.new replies.items) }
     ensures done { IfOk result (λ _. AreAllDone program.now (store_of cat.new)) }
     ensures order { IfOk result (λ _. AreInOrder program.now (length program.now.sessions) cat.new.history) }
@@ -111,7 +111,7 @@ pub fn run_program(
     requires turns { program.now.turns ≡ [] }
     ensures finished { IfOk result (λ finished. IsFinished program.now finished.store) }
     ensures order { IfOk result (λ finished. IsInOrder finished.store) }
-    ensures rows { IfOk result (λ finished. finished.store.cap ≡ partition_rows) }
+    ensures cap { IfOk result (λ finished. finished.store.cap ≡ partition_rows) }
     ensures text { IfOk result (λ finished. IsTranscript finished.store finished.text.items) }
 {
     let mut store = Catalog::new(alloc, program, partition_rows)?;

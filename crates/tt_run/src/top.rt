@@ -152,7 +152,7 @@ pub fn top_alone<S: Source, K: Sink>(
     ensures true_parts { IfSome result.store StoresTrueParts }
     ensures bags { IfSome result.store FormsBags }
     ensures kept_rows { IfSome result.store KeepsRows }
-    ensures rows { IfSome result.store (λ store. rows_wanted words.now ≡ Some store.cap) }
+    ensures cap { IfSome result.store (λ store. rows_wanted words.now ≡ Some store.cap) }
 
     // The bytes written are the transcript, or a prefix of it where writing failed.
     ensures transcript { result.status ≡ Status.Ok → IfSome result.store (λ store.

@@ -63,7 +63,7 @@ no_tables : (program : Script) → length (empty_store program).tables ≤ 0
 unfolding empty_store
 no_tables program = omega arith
 
-pub begins : (program : Script) (cap room : ℕ) → IsProgram program → (1 ≤ cap) × (cap ≤ 65536) → entry_limit program ≤ room → StandsFor (record { program = program; cap = cap; history = [] }) (first_kept program) room
+pub begins : (program : Script) (cap room : ℕ) → IsProgram program → (1 ≤ cap) × (cap ≤ 65536) → entry_limit program ≤ room → StandsFor (record { program = program; cap = cap; history = []; kept = first_kept program }) (first_kept program) room
 unfolding store_after contents_of pairs_of replay_of replay_from
 begins program cap room limits capped roomy = record {
   legal = record { run = (empty_store program, []); replayed = refl };

@@ -16,7 +16,7 @@ use Rattle.tt_plain.specs.stored.Points.{point_place}
 use Rattle.tt_plain.specs.stored.Sessions.{new_session, session_at}
 use Rattle.tt_plain.proofs.law.Lists.{every_at}
 use Rattle.tt_built.specs.Built.{built}
-use Rattle.tt_state.proofs.Goes.{GoesOn, alone_now, ended_less, idle_now, same_marks, sessions_now, tables_stay}
+use Rattle.tt_state.proofs.Goes.{GoesOn, alone_now, ended_less, idle_now, parts_stay, same_marks, sessions_now, tables_stay}
 use Rattle.tt_state.proofs.Histories.{contents_same}
 use Rattle.tt_state.proofs.TrueFacts.{IsTrueEntry}
 use Rattle.tt_state.proofs.Turns.{IsNext}
@@ -49,7 +49,7 @@ module _ (chronicle : Chronicle) (kept : Kept) (room session index : ℕ) (read 
   -- a statement that is refused, or finds no memory
   pub ended_goes : (k : EntryKind) (reply : Reply) → step_of built chronicle.program store (entry_at store.moment session index k) ≡ Some (ended reply, Some reply) → parts_added k ≡ []
       → IsTrueEntry built chronicle.program chronicle.cap (rows_of chronicle) store (entry_at store.moment session index k)
-      → GoesOn chronicle (with_ended chronicle.program kept session index) (entry_at store.moment session index k) (ended reply) (Some reply)
+      → GoesOn chronicle kept (with_ended chronicle.program kept session index) (entry_at store.moment session index k) (ended reply) (Some reply)
   unfolding applied ended_with
   ended_goes k reply step none true_entry =
       let at : session_at store session ≡ next.state = state_is store session next.state next.turn.state_is in
@@ -58,6 +58,7 @@ module _ (chronicle : Chronicle) (kept : Kept) (room session index : ℕ) (read 
         less = ended_less chronicle.program store (ended reply) session index next.lines next.state done next.turn refl refl refl;
         few = omega arith;
         true_entry = true_entry;
+        parts = parts_stay kept.parts kept.parts refl;
         tables = tables_stay store.tables store.tally store.tally (rows_of chronicle) (contents_with built chronicle.program (rows_of chronicle) (store, entry_at store.moment session index k)) kept (with_ended chronicle.program kept session index)
             stands.tables refl refl (contents_same built chronicle.program (rows_of chronicle) (store, entry_at store.moment session index k) none) refl refl refl;
         sessions = record {

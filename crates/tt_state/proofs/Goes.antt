@@ -1,9 +1,9 @@
 -- A catalog goes on by an entry.
-use Rattle.std.specs.Prelude.{Bool, List, None, Option, Some, [], filter, is_some, length, map, refl, slice_get, slice_set, unwrap_or, ℕ, ◌++◌, ◌+◌, ◌<◌, ◌==◌, ◌∷◌, ◌≡◌, ◌≢◌, true, false, ◌≤◌}
+use Rattle.std.specs.Prelude.{Bool, List, None, Option, Some, [], filter, if◌then◌else◌, is_some, length, map, refl, slice_get, slice_set, unwrap_or, ℕ, ◌++◌, ◌+◌, ◌<◌, ◌==◌, ◌∷◌, ◌≡◌, ◌≢◌, true, false, ◌≤◌}
 use Rattle.std.proofs.Common.{ap, arith, subst, sym, ◌∙◌}
 use Rattle.std.proofs.lemmas.Bool.{false≢true}
 use Rattle.std.proofs.lemmas.List.{length_push}
-use Rattle.std.proofs.lemmas.Option.{same_Some}
+use Rattle.std.proofs.lemmas.Option.{none-some, same_Some}
 use Rattle.tt_value.specs.declared.value.Row.{Row}
 use Rattle.tt_script.specs.declared.script.Script.{Script}
 use Rattle.tt_script.specs.declared.script.SessionText.{SessionText}
@@ -33,25 +33,26 @@ use Rattle.tt_state.proofs.Lists.{map_set, set_other, set_same}
 use Rattle.tt_state.proofs.Owed.{fewer_owed, one_less_owed, owed-set}
 use Rattle.tt_state.proofs.TrueFacts.{IsTrueEntry, facts_longer}
 use Rattle.tt_state.proofs.Turns.{IsTurn}
-use Rattle.tt_state.specs.Chronicle.{Chronicle, MadeEntry, rows_of, store_of}
+use Rattle.tt_state.specs.Chronicle.{Chronicle, KeepsParts, MadeEntry, rows_of, store_of}
 use Rattle.tt_state.specs.Keeps.{AreMarks, AreNames, AreTrueParts, HasKeptParts, IdlePinNothing, KeepsSessions, KeepsTables, StandsFor, mark_of, session_of, table_of}
-use Rattle.tt_state.specs.Kept.{Kept}
+use Rattle.tt_state.specs.Kept.{Kept, stored_at}
 use Rattle.tt_state.specs.Owed.{owed, owed_by}
 
 -- fewer entries are owed after one of a session, and what it says of parts is true
-pub record GoesOn (chronicle : Chronicle) (now : Kept) (entry : Entry) (next : Plain) (told : Option Reply) : Type 0 where
+pub record GoesOn (chronicle : Chronicle) (kept now : Kept) (entry : Entry) (next : Plain) (told : Option Reply) : Type 0 where
   pub step : step_of built chronicle.program (store_of chronicle) entry ≡ Some (next, told)
   pub less : owed chronicle.program.sessions next.sessions < owed chronicle.program.sessions (store_of chronicle).sessions
   pub few : length next.tables ≤ length (store_of chronicle).tables + 1
   pub true_entry : IsTrueEntry built chronicle.program chronicle.cap (rows_of chronicle) (store_of chronicle) entry
   pub tables : KeepsTables next.tables next.tally (contents_with built chronicle.program (rows_of chronicle) (store_of chronicle, entry)) now
   pub sessions : KeepsSessions next now
+  pub parts : KeepsParts kept.parts now.parts
 
-abbrev with_history : Chronicle → List Entry → Chronicle
-with_history chronicle history = record { program = chronicle.program; cap = chronicle.cap; history = history }
+abbrev pub with_history : Chronicle → List Entry → Kept → Chronicle
+with_history chronicle history now = record { program = chronicle.program; cap = chronicle.cap; history = history; kept = now }
 
-longer_stands : (chronicle : Chronicle) (kept now : Kept) (room left : ℕ) (entry : Entry) (next : Plain) (told : Option Reply) → StandsFor chronicle kept room → GoesOn chronicle now entry next told → left + 1 ≡ room
-    → StandsFor (with_history chronicle (chronicle.history ++ entry ∷ [])) now left
+longer_stands : (chronicle : Chronicle) (kept now : Kept) (room left : ℕ) (entry : Entry) (next : Plain) (told : Option Reply) → StandsFor chronicle kept room → GoesOn chronicle kept now entry next told → left + 1 ≡ room
+    → StandsFor (with_history chronicle (chronicle.history ++ entry ∷ []) now) now left
 longer_stands chronicle kept now room left entry next told stands goes room_is =
     let run = stands.legal.run in
     let store = store_is built chronicle.program chronicle.history run stands.legal.replayed in
@@ -61,7 +62,7 @@ longer_stands chronicle kept now room left entry next told stands goes room_is =
     record {
       legal = record { run = (next, run.1 ++ told ∷ []); replayed = replay_longer built chronicle.program chronicle.history entry run (next, told) stands.legal.replayed here };
       true_facts = facts_longer built chronicle.program chronicle.cap chronicle.history entry stands.true_facts goes.true_entry;
-      tables = subst (λ (contents : List (List Row)). KeepsTables (store_of (with_history chronicle (chronicle.history ++ entry ∷ []))).tables (store_of (with_history chronicle (chronicle.history ++ entry ∷ []))).tally contents now) (sym rows)
+      tables = subst (λ (contents : List (List Row)). KeepsTables (store_of (with_history chronicle (chronicle.history ++ entry ∷ []) now)).tables (store_of (with_history chronicle (chronicle.history ++ entry ∷ []) now)).tally contents now) (sym rows)
           (subst (λ (s : Plain). KeepsTables s.tables s.tally (contents_with built chronicle.program (rows_of chronicle) (store_of chronicle, entry)) now) (sym after) goes.tables);
       sessions = subst (λ (s : Plain). KeepsSessions s now) (sym after) goes.sessions;
       limits = stands.limits;
@@ -71,22 +72,23 @@ longer_stands chronicle kept now room left entry next told stands goes room_is =
       roomy = omega (arith, stands.roomy, goes.less, room_is, ap (λ (s : Plain). owed chronicle.program.sessions s.sessions) after);
     }
 
-pub goes_on : (chronicle : Chronicle) (kept now : Kept) (room left : ℕ) (entry : Entry) (next : Plain) (told : Option Reply) (history : List Entry) → StandsFor chronicle kept room → GoesOn chronicle now entry next told
-    → history ≡ chronicle.history ++ entry ∷ [] → left + 1 ≡ room → StandsFor (with_history chronicle history) now left
+pub goes_on : (chronicle : Chronicle) (kept now : Kept) (room left : ℕ) (entry : Entry) (next : Plain) (told : Option Reply) (history : List Entry) → StandsFor chronicle kept room → GoesOn chronicle kept now entry next told
+    → history ≡ chronicle.history ++ entry ∷ [] → left + 1 ≡ room → StandsFor (with_history chronicle history now) now left
 goes_on chronicle kept now room left entry next told history stands goes longer room_is =
-    subst (λ (h : List Entry). StandsFor (with_history chronicle h) now left) (sym longer) (longer_stands chronicle kept now room left entry next told stands goes room_is)
+    subst (λ (h : List Entry). StandsFor (with_history chronicle h now) now left) (sym longer) (longer_stands chronicle kept now room left entry next told stands goes room_is)
 
-pub made : (chronicle : Chronicle) (now : Kept) (entry : Entry) (next : Plain) (told : Option Reply) (history : List Entry) → GoesOn chronicle now entry next told
-    → history ≡ chronicle.history ++ entry ∷ [] → MadeEntry chronicle (with_history chronicle history) entry told
+pub made : (chronicle : Chronicle) (now : Kept) (entry : Entry) (next : Plain) (told : Option Reply) (history : List Entry) → GoesOn chronicle chronicle.kept now entry next told
+    → history ≡ chronicle.history ++ entry ∷ [] → MadeEntry chronicle (with_history chronicle history now) entry told
 made chronicle now entry next told history goes longer = record {
   same_program = refl;
   same_cap = refl;
   longer = longer;
-  step = goes.step ∙ ap (λ (s : Plain). Some (s, told)) (sym (ap (λ (h : List Entry). store_of (with_history chronicle h)) longer ∙ store_longer built chronicle.program chronicle.history entry (next, told) goes.step));
+  parts = goes.parts;
+  step = goes.step ∙ ap (λ (s : Plain). Some (s, told)) (sym (ap (λ (h : List Entry). store_of (with_history chronicle h now)) longer ∙ store_longer built chronicle.program chronicle.history entry (next, told) goes.step));
 }
 
 -- there is room for an entry that is made
-pub has_room : (chronicle : Chronicle) (kept now : Kept) (room : ℕ) (entry : Entry) (next : Plain) (told : Option Reply) → StandsFor chronicle kept room → GoesOn chronicle now entry next told → 0 < room
+pub has_room : (chronicle : Chronicle) (kept now : Kept) (room : ℕ) (entry : Entry) (next : Plain) (told : Option Reply) → StandsFor chronicle kept room → GoesOn chronicle kept now entry next told → 0 < room
 has_room chronicle kept now room entry next told stands goes = omega (arith, goes.less, stands.roomy)
 
 -- ---- a session changed
@@ -161,3 +163,17 @@ tables_stay tables old new contents now_contents kept now keeps layouts parts sa
   contents = ap (λ (cs : List (List Row)). length cs) same ∙ keeps.contents ∙ ap (λ (ps : List StoredPart). length ps) (sym p);
   layouts = subst (λ (ts : List TableState). Every (HasKeptParts now.parts) ts) (sym t) (subst (λ (ps : List StoredPart). Every (HasKeptParts ps) kept.tables) (sym p) keeps.layouts);
 }
+
+-- ---- stored parts
+
+-- where parts are added behind, those before are the same
+pub added_behind : (old added : List StoredPart) → KeepsParts old (old ++ added)
+added_behind [] added number part now is later = absurd (none-some part is)
+added_behind (first ∷ old) added number part now is later = by (first.facts.number == number) (added_behind old added number part now) is later
+  where
+    by : (b : Bool) → (stored_at old number ≡ Some part → stored_at (old ++ added) number ≡ Some now → now ≡ part) → (if b then Some first else stored_at old number) ≡ Some part → (if b then Some first else stored_at (old ++ added) number) ≡ Some now → now ≡ part
+    by true behind here there = same_Some now part (sym there ∙ here)
+    by false behind here there = behind here there
+
+pub parts_stay : (old new : List StoredPart) → new ≡ old → KeepsParts old new
+parts_stay old new same number part now is later = same_Some now part (sym later ∙ ap (λ (parts : List StoredPart). stored_at parts number) same ∙ is)

@@ -14,12 +14,15 @@ use Rattle.tt_plain.specs.history.Contents.{contents_of}
 use Rattle.tt_plain.specs.history.Replay.{store_after}
 use Rattle.tt_plain.specs.history.Step.{step_of}
 use Rattle.tt_built.specs.Built.{built}
+use Rattle.tt_state.specs.declared.part.StoredPart.{StoredPart}
+use Rattle.tt_state.specs.Kept.{Kept, stored_at}
 
--- the program and the most rows of a part that the catalog was made with, and its history
+-- the program and the most rows of a part that the catalog was made with, its history, and what it keeps
 pub record Chronicle : Type 0 where
   pub program : Script
   pub cap : ℕ
   pub history : List Entry
+  pub kept : Kept
 
 -- the plain store to which the history leads
 abbrev pub store_of : Chronicle → Plain
@@ -33,12 +36,17 @@ rows_of chronicle = contents_of built chronicle.program chronicle.history
 abbrev pub entry_at : ℕ → ℕ → ℕ → EntryKind → Entry
 entry_at moment session index kind = record { moment = moment + 1; actor = actor.Session session; index = index; kind = kind }
 
--- A call makes one entry: the history is longer by it, and its reply is that of the plain store's step.
+-- A part that is stored before and after is the same.
+abbrev pub KeepsParts : List StoredPart → List StoredPart → Type 0
+KeepsParts old new = (number : ℕ) (part now : StoredPart) → stored_at old number ≡ Some part → stored_at new number ≡ Some now → now ≡ part
+
+-- A call makes one entry: the history is longer by it, its reply is that of the plain store's step, and no stored part changes.
 pub record MadeEntry (old new : Chronicle) (entry : Entry) (told : Option Reply) : Type 0 where
   pub same_program : new.program ≡ old.program
   pub same_cap : new.cap ≡ old.cap
   pub longer : new.history ≡ old.history ++ entry ∷ []
   pub step : step_of built old.program (store_of old) entry ≡ Some (store_of new, told)
+  pub parts : KeepsParts old.kept.parts new.kept.parts
 
 -- the session's next statement, and what was read of its text
 abbrev pub IsNextRead : Chronicle → ℕ → ℕ → Result Statement ℕ → Type 0

@@ -1,6 +1,6 @@
 -- What the catalog keeps, as contracts see it, and what is looked up in it.
 use Rattle.std.specs.Option.{option_and_then}
-use Rattle.std.specs.Prelude.{List, None, Option, Some, [], if◌then◌else◌, slice_get, ℕ, ◌-◌, ◌==◌}
+use Rattle.std.specs.Prelude.{List, None, Option, Some, [], find, if◌then◌else◌, slice_get, ℕ, ◌-◌, ◌==◌}
 use Rattle.tt_layout.specs.Chain.{current_of}
 use Rattle.tt_marks.specs.declared.mark.Mark.{Mark}
 use Rattle.tt_names.specs.Registry.{Registry, live_of}
@@ -55,6 +55,10 @@ no_table = record { kinds = []; rows = [] }
 abbrev pub table_in : Option StoredPart → Table
 table_in None = no_table
 table_in (Some part) = part.part
+
+-- the stored part of a number
+abbrev pub stored_at : List StoredPart → ℕ → Option StoredPart
+stored_at parts number = find (λ (part : StoredPart). part.facts.number == number) parts
 
 -- the rows of the part of a number
 abbrev pub part_kept : List StoredPart → ℕ → Table

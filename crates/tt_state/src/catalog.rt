@@ -34,12 +34,16 @@ impl Model for Catalog {
     ghost use Rattle.tt_state.specs.Chronicle.{Chronicle};
     ghost use Rattle.tt_state.specs.Keeps.{StandsFor};
     ghost use Rattle.tt_state.specs.Kept.{kept_of};
+    ghost use Rattle.tt_names.specs.RegistryCode.{registry_code};
+    ghost use Rattle.std.specs.Coded.{codes};
 
     ghost Value = { Chronicle };
 
-    ghost view = { λ c. record { program = c.program; cap = c.cap; history = c.history.list } };
+    ghost coded = { Prim.hlevel (codes, registry_code) };
 
-    ghost invariant = { λ c. StandsFor (record { program = c.program; cap = c.cap; history = c.history.list }) (kept_of c.state) c.history.room };
+    ghost view = { λ c. record { program = c.program; cap = c.cap; history = c.history.list; kept = kept_of c.state } };
+
+    ghost invariant = { λ c. StandsFor (record { program = c.program; cap = c.cap; history = c.history.list; kept = kept_of c.state }) (kept_of c.state) c.history.room };
 }
 
 fn push_points(points: &mut Vec<Option<u64>>, lines: &SessionText) -> Result<(), AllocError>
@@ -135,6 +139,7 @@ impl Catalog {
 
     /// The parts that are kept, by number, each with its facts.
     pub fn stored(&self) -> &[StoredPart]
+        ensures kept { result.now ≡ self.now.kept.parts }
         ensures facts { map (λ part. part.facts) result.now ≡ map facts_of_part (stored_parts (store_of self.now).tally) }
         ensures true_parts { AreTrueParts (store_of self.now).tables (rows_of self.now) 1 result.now }
     {

@@ -36,24 +36,26 @@ push-requires c =
 pub invariant_of-cat-2 : goal.invariant_of-cat-2
 invariant_of-cat-2 c =
     let is = subst (λ (b : Chronicle). IsBuiltFor b c.args.ticket c.args.built) (sym c.cat.view_is) c.requires in
-    let chronicle : Chronicle = record { program = c.cat.inside.program; cap = c.cat.inside.cap; history = c.cat.inside.history.list } in
+    let chronicle : Chronicle = record { program = c.cat.inside.program; cap = c.cat.inside.cap; history = c.cat.inside.history.list; kept = kept_of c.cat.inside.state } in
     let goes = changed_goes chronicle _ _ c.args.ticket c.args.built c.cat.invariant is c.in-Ok.ensures.parts in
     let entry = c.session_entry-entry.ensures ∙ entry_is chronicle _ _ c.args.ticket c.args.built c.cat.invariant is c.land.new.state.moment c.in-Ok.facts (ap (λ (k : Kept). k.moment) c.in-Ok.ensures.ok) c.in-Ok.ensures.facts in
     let longer = c.push.ensures.entries ∙ ap (λ (e : Entry). c.cat.inside.history.list ++ e ∷ []) entry in
     let now = now_is chronicle _ _ c.args.ticket c.args.built c.cat.invariant is c.in-Some.target c.in-Some.is c.items.result.now c.items.ensures (kept_of c.land.new.state) (kept_of c.give_up.new.state) c.in-Ok.ensures.ok c.give_up.ensures in
-    let went = subst (λ (k : Kept). GoesOn chronicle k (change_entry chronicle c.args.ticket c.args.built) goes.0 (Some (reply.Inserted c.args.built.count))) (sym now) goes.1 in
+    let went = subst (λ (k : Kept). GoesOn chronicle chronicle.kept k (change_entry chronicle c.args.ticket c.args.built) goes.0 (Some (reply.Inserted c.args.built.count))) (sym now) goes.1 in
     goes_on _ _ _ _ _ _ _ _ _ c.cat.invariant went longer c.push.ensures.room
 
 pub returns-clause-ok : goal.returns-clause-ok
 returns-clause-ok c =
     let is = subst (λ (b : Chronicle). IsBuiltFor b c.args.ticket c.args.built) (sym c.cat.view_is) c.requires in
-    let chronicle : Chronicle = record { program = c.cat.inside.program; cap = c.cat.inside.cap; history = c.cat.inside.history.list } in
+    let chronicle : Chronicle = record { program = c.cat.inside.program; cap = c.cat.inside.cap; history = c.cat.inside.history.list; kept = kept_of c.cat.inside.state } in
     let goes = changed_goes chronicle _ _ c.args.ticket c.args.built c.cat.invariant is c.in-Ok.ensures.parts in
     let entry = c.session_entry-entry.ensures ∙ entry_is chronicle _ _ c.args.ticket c.args.built c.cat.invariant is c.land.new.state.moment c.in-Ok.facts (ap (λ (k : Kept). k.moment) c.in-Ok.ensures.ok) c.in-Ok.ensures.facts in
     let longer = c.push.ensures.entries ∙ ap (λ (e : Entry). c.cat.inside.history.list ++ e ∷ []) entry in
-    let new : Chronicle = record { program = c.cat.inside.program; cap = c.cat.inside.cap; history = c.push.new.self.list } in
+    let now = now_is chronicle _ _ c.args.ticket c.args.built c.cat.invariant is c.in-Some.target c.in-Some.is c.items.result.now c.items.ensures (kept_of c.land.new.state) (kept_of c.give_up.new.state) c.in-Ok.ensures.ok c.give_up.ensures in
+    let went = subst (λ (k : Kept). GoesOn chronicle chronicle.kept k (change_entry chronicle c.args.ticket c.args.built) goes.0 (Some (reply.Inserted c.args.built.count))) (sym now) goes.1 in
+    let new : Chronicle = record { program = c.cat.inside.program; cap = c.cat.inside.cap; history = c.push.new.self.list; kept = kept_of c.give_up.new.state } in
     subst (λ (b : Chronicle). MadeChange b new c.args.ticket c.args.built (reply.Inserted c.args.built.count)) c.cat.view_is
-    (made chronicle _ _ goes.0 _ _ goes.1 longer)
+    (made chronicle _ _ goes.0 _ _ went longer)
 
 pub returns-clause-count : goal.returns-clause-count
 returns-clause-count c =

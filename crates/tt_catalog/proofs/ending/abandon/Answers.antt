@@ -6,7 +6,7 @@ use Rattle.tt_state.proofs.Goes.{GoesOn, goes_on, has_room, made}
 use Rattle.tt_state.proofs.Histories.{early, stands_sound}
 use Rattle.tt_state.proofs.Turns.{is_open, ready}
 use Rattle.tt_state.specs.Chronicle.{Chronicle, IsOpenRead, MadeEntry, entry_at, store_of}
-use Rattle.tt_state.specs.Kept.{Kept}
+use Rattle.tt_state.specs.Kept.{Kept, kept_of}
 use Rattle.tt_catalog.proofs.Ended.{abandoned_goes}
 use Rattle.tt_catalog.proofs.ending.abandon.Goals as goal
 
@@ -26,18 +26,19 @@ push-requires c =
 pub invariant_of-cat : goal.invariant_of-cat
 invariant_of-cat c =
     let found = subst (λ (b : Chronicle). IsOpenRead b c.args.ticket.session c.args.ticket.index c.requires.0 c.requires.1) (sym c.cat.view_is) c.requires.2 in
-    let chronicle : Chronicle = record { program = c.cat.inside.program; cap = c.cat.inside.cap; history = c.cat.inside.history.list } in
+    let chronicle : Chronicle = record { program = c.cat.inside.program; cap = c.cat.inside.cap; history = c.cat.inside.history.list; kept = kept_of c.cat.inside.state } in
     let goes = abandoned_goes chronicle _ _ c.args.ticket.session c.args.ticket.index _ _ c.cat.invariant found in
     let longer = c.push.ensures.entries ∙ ap (λ e. c.cat.inside.history.list ++ e ∷ []) (c.session_entry-entry.ensures ∙ ap (λ m. entry_at m c.args.ticket.session c.args.ticket.index (kind.Abandon told.Memory)) c.cat.invariant.sessions.moment) in
-    let went = subst (λ (k : Kept). GoesOn chronicle k (entry_at (store_of chronicle).moment c.args.ticket.session c.args.ticket.index (kind.Abandon told.Memory)) goes.0 (Some reply.Memory)) (sym c.give_up.ensures) goes.1 in
+    let went = subst (λ (k : Kept). GoesOn chronicle chronicle.kept k (entry_at (store_of chronicle).moment c.args.ticket.session c.args.ticket.index (kind.Abandon told.Memory)) goes.0 (Some reply.Memory)) (sym c.give_up.ensures) goes.1 in
     goes_on _ _ _ _ _ _ _ _ _ c.cat.invariant went longer c.push.ensures.room
 
 pub returns : goal.returns
 returns c =
     let found = subst (λ (b : Chronicle). IsOpenRead b c.args.ticket.session c.args.ticket.index c.requires.0 c.requires.1) (sym c.cat.view_is) c.requires.2 in
-    let chronicle : Chronicle = record { program = c.cat.inside.program; cap = c.cat.inside.cap; history = c.cat.inside.history.list } in
+    let chronicle : Chronicle = record { program = c.cat.inside.program; cap = c.cat.inside.cap; history = c.cat.inside.history.list; kept = kept_of c.cat.inside.state } in
     let goes = abandoned_goes chronicle _ _ c.args.ticket.session c.args.ticket.index _ _ c.cat.invariant found in
     let longer = c.push.ensures.entries ∙ ap (λ e. c.cat.inside.history.list ++ e ∷ []) (c.session_entry-entry.ensures ∙ ap (λ m. entry_at m c.args.ticket.session c.args.ticket.index (kind.Abandon told.Memory)) c.cat.invariant.sessions.moment) in
-    let new : Chronicle = record { program = c.cat.inside.program; cap = c.cat.inside.cap; history = c.push.new.self.list } in
+    let went = subst (λ (k : Kept). GoesOn chronicle chronicle.kept k (entry_at (store_of chronicle).moment c.args.ticket.session c.args.ticket.index (kind.Abandon told.Memory)) goes.0 (Some reply.Memory)) (sym c.give_up.ensures) goes.1 in
+    let new : Chronicle = record { program = c.cat.inside.program; cap = c.cat.inside.cap; history = c.push.new.self.list; kept = kept_of c.give_up.new.state } in
     subst (λ (b : Chronicle). MadeEntry b new (entry_at (store_of b).moment c.args.ticket.session c.args.ticket.index (kind.Abandon told.Memory)) (Some reply.Memory)) c.cat.view_is
-    (made chronicle _ _ goes.0 _ _ goes.1 longer)
+    (made chronicle _ _ goes.0 _ _ went longer)

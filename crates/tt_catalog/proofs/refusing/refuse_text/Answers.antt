@@ -7,7 +7,7 @@ use Rattle.tt_state.proofs.Goes.{GoesOn, goes_on, has_room, made}
 use Rattle.tt_state.proofs.Histories.{early}
 use Rattle.tt_state.proofs.Turns.{is_next, ready}
 use Rattle.tt_state.specs.Chronicle.{Chronicle, IsNextRead, MadeEntry, entry_at, store_of}
-use Rattle.tt_state.specs.Kept.{Kept}
+use Rattle.tt_state.specs.Kept.{Kept, kept_of}
 use Rattle.tt_catalog.proofs.Refused.{text_refused}
 use Rattle.tt_catalog.proofs.refusing.refuse_text.Goals as goal
 
@@ -27,22 +27,23 @@ push-requires c =
 pub invariant_of-cat : goal.invariant_of-cat
 invariant_of-cat c =
     let next = subst (λ (b : Chronicle). IsNextRead b c.args.session c.args.index (Err c.args.place)) (sym c.cat.view_is) c.requires in
-    let chronicle : Chronicle = record { program = c.cat.inside.program; cap = c.cat.inside.cap; history = c.cat.inside.history.list } in
+    let chronicle : Chronicle = record { program = c.cat.inside.program; cap = c.cat.inside.cap; history = c.cat.inside.history.list; kept = kept_of c.cat.inside.state } in
     let goes = text_refused chronicle _ _ c.args.session c.args.index c.args.place c.cat.invariant next in
     let longer = c.push.ensures.entries ∙ ap (λ e. c.cat.inside.history.list ++ e ∷ [])
     (c.session_entry-entry.ensures ∙ ap (λ n. entry_at c.cat.inside.state.moment c.args.session c.args.index (kind.Start (told.Refused n))) c.number.ensures
     ∙ ap (λ m. entry_at m c.args.session c.args.index (kind.Start (told.Refused 1))) c.cat.invariant.sessions.moment) in
-    let went = subst (λ (k : Kept). GoesOn chronicle k (entry_at (store_of chronicle).moment c.args.session c.args.index (kind.Start (told.Refused 1))) goes.0 (Some (reply.Refused (refusal.Syntax c.args.place)))) (sym c.end_statement.ensures) goes.1 in
+    let went = subst (λ (k : Kept). GoesOn chronicle chronicle.kept k (entry_at (store_of chronicle).moment c.args.session c.args.index (kind.Start (told.Refused 1))) goes.0 (Some (reply.Refused (refusal.Syntax c.args.place)))) (sym c.end_statement.ensures) goes.1 in
     goes_on _ _ _ _ _ _ _ _ _ c.cat.invariant went longer c.push.ensures.room
 
 pub returns-clause-entry : goal.returns-clause-entry
 returns-clause-entry c =
     let next = subst (λ (b : Chronicle). IsNextRead b c.args.session c.args.index (Err c.args.place)) (sym c.cat.view_is) c.requires in
-    let chronicle : Chronicle = record { program = c.cat.inside.program; cap = c.cat.inside.cap; history = c.cat.inside.history.list } in
+    let chronicle : Chronicle = record { program = c.cat.inside.program; cap = c.cat.inside.cap; history = c.cat.inside.history.list; kept = kept_of c.cat.inside.state } in
     let goes = text_refused chronicle _ _ c.args.session c.args.index c.args.place c.cat.invariant next in
     let longer = c.push.ensures.entries ∙ ap (λ e. c.cat.inside.history.list ++ e ∷ [])
     (c.session_entry-entry.ensures ∙ ap (λ n. entry_at c.cat.inside.state.moment c.args.session c.args.index (kind.Start (told.Refused n))) c.number.ensures
     ∙ ap (λ m. entry_at m c.args.session c.args.index (kind.Start (told.Refused 1))) c.cat.invariant.sessions.moment) in
-    let new : Chronicle = record { program = c.cat.inside.program; cap = c.cat.inside.cap; history = c.push.new.self.list } in
+    let went = subst (λ (k : Kept). GoesOn chronicle chronicle.kept k (entry_at (store_of chronicle).moment c.args.session c.args.index (kind.Start (told.Refused 1))) goes.0 (Some (reply.Refused (refusal.Syntax c.args.place)))) (sym c.end_statement.ensures) goes.1 in
+    let new : Chronicle = record { program = c.cat.inside.program; cap = c.cat.inside.cap; history = c.push.new.self.list; kept = kept_of c.end_statement.new.self } in
     subst (λ (b : Chronicle). MadeEntry b new (entry_at (store_of b).moment c.args.session c.args.index (kind.Start (told.Refused 1))) (Some (reply.Refused (refusal.Syntax c.args.place)))) c.cat.view_is
-    (made chronicle _ _ goes.0 _ _ goes.1 longer)
+    (made chronicle _ _ goes.0 _ _ went longer)

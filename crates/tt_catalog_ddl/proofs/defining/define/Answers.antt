@@ -4,7 +4,7 @@ use Rattle.tt_history.specs.declared.history.EntryKind.TheVariants as kind
 use Rattle.tt_state.proofs.Goes.{GoesOn, goes_on, has_room, made}
 use Rattle.tt_state.proofs.Turns.{is_next, ready, said_built}
 use Rattle.tt_state.specs.Chronicle.{Chronicle, IsNextRead, MadeEntry, entry_at, store_of}
-use Rattle.tt_state.specs.Kept.{Kept}
+use Rattle.tt_state.specs.Kept.{Kept, kept_of}
 use Rattle.tt_catalog_ddl.proofs.Defined.{defined_goes}
 use Rattle.tt_catalog_ddl.proofs.Lookups.{carried_ready, few_tables, in_clock, names_known}
 use Rattle.tt_catalog_ddl.proofs.defining.define.Goals as goal
@@ -41,18 +41,19 @@ push-requires c =
 pub invariant_of-cat : goal.invariant_of-cat
 invariant_of-cat c =
     let next = subst (λ (b : Chronicle). IsNextRead b c.args.session c.args.index (Ok c.args.statement.now)) (sym c.cat.view_is) c.requires.next in
-    let chronicle : Chronicle = record { program = c.cat.inside.program; cap = c.cat.inside.cap; history = c.cat.inside.history.list } in
+    let chronicle : Chronicle = record { program = c.cat.inside.program; cap = c.cat.inside.cap; history = c.cat.inside.history.list; kept = kept_of c.cat.inside.state } in
     let goes = defined_goes _ _ _ _ _ _ _ _ _ c.cat.invariant next c.carry_out-told.ensures in
     let longer = c.push.ensures.entries ∙ ap (λ e. c.cat.inside.history.list ++ e ∷ []) (c.session_entry-entry.ensures ∙ ap (λ m. entry_at m c.args.session c.args.index (kind.Define c.carry_out-told.result.0)) c.cat.invariant.sessions.moment) in
-    let went = subst (λ (k : Kept). GoesOn chronicle k (entry_at (store_of chronicle).moment c.args.session c.args.index (kind.Define c.carry_out-told.result.0)) goes.0 (Some c.carry_out-told.result.1)) (sym c.end_statement.ensures) goes.1 in
+    let went = subst (λ (k : Kept). GoesOn chronicle chronicle.kept k (entry_at (store_of chronicle).moment c.args.session c.args.index (kind.Define c.carry_out-told.result.0)) goes.0 (Some c.carry_out-told.result.1)) (sym c.end_statement.ensures) goes.1 in
     goes_on _ _ _ _ _ _ _ _ _ c.cat.invariant went longer c.push.ensures.room
 
 pub returns : goal.returns
 returns c =
     let next = subst (λ (b : Chronicle). IsNextRead b c.args.session c.args.index (Ok c.args.statement.now)) (sym c.cat.view_is) c.requires.next in
-    let chronicle : Chronicle = record { program = c.cat.inside.program; cap = c.cat.inside.cap; history = c.cat.inside.history.list } in
+    let chronicle : Chronicle = record { program = c.cat.inside.program; cap = c.cat.inside.cap; history = c.cat.inside.history.list; kept = kept_of c.cat.inside.state } in
     let goes = defined_goes _ _ _ _ _ _ _ _ _ c.cat.invariant next c.carry_out-told.ensures in
     let longer = c.push.ensures.entries ∙ ap (λ e. c.cat.inside.history.list ++ e ∷ []) (c.session_entry-entry.ensures ∙ ap (λ m. entry_at m c.args.session c.args.index (kind.Define c.carry_out-told.result.0)) c.cat.invariant.sessions.moment) in
-    let new : Chronicle = record { program = c.cat.inside.program; cap = c.cat.inside.cap; history = c.push.new.self.list } in
+    let went = subst (λ (k : Kept). GoesOn chronicle chronicle.kept k (entry_at (store_of chronicle).moment c.args.session c.args.index (kind.Define c.carry_out-told.result.0)) goes.0 (Some c.carry_out-told.result.1)) (sym c.end_statement.ensures) goes.1 in
+    let new : Chronicle = record { program = c.cat.inside.program; cap = c.cat.inside.cap; history = c.push.new.self.list; kept = kept_of c.end_statement.new.self } in
     subst (λ (b : Chronicle). (x : Told) × MadeEntry b new (entry_at (store_of b).moment c.args.session c.args.index (kind.Define x)) (Some c.carry_out-told.result.1)) c.cat.view_is
-    (c.carry_out-told.result.0, made chronicle _ _ goes.0 _ _ goes.1 longer)
+    (c.carry_out-told.result.0, made chronicle _ _ goes.0 _ _ went longer)
