@@ -1,0 +1,11 @@
+pub mod Defines
+pub mod Ends
+pub mod Entries
+pub mod Kept
+pub mod Meaning
+pub mod Rows
+pub mod Seen
+pub mod Sessions
+pub mod Staged
+pub mod Starts
+pub mod Typed
