@@ -1,0 +1,10 @@
+pub mod Bodies
+pub mod Chains
+pub mod FactLaws
+pub mod Fields
+pub mod Heads
+pub mod KindLaws
+pub mod LineLaws
+pub mod Loops
+pub mod Names
+pub mod Numerals
