@@ -318,3 +318,8 @@ bits_empty n ws bits e = (
   λ none. no_bits bits (ap length (sym e) ∙ length-bits_of n ws ∙ eqb-true n 0 none),
   λ none. eq-eqb n 0 (sym (length-bits_of n ws) ∙ ap length (e ∙ none)),
 )
+
+-- no bit of any words
+pub bits_none : (words : List ℕ) → bits_of 0 words ≡ []
+unfolding bits_of
+bits_none words = refl

@@ -4,7 +4,7 @@ ghost use Rattle.tt_bits.specs.Bits.{both, either};
 
 use crate::words::{
     and_words, clear_unused, count_set, filled_words, is_set, make_room, not_words, or_words,
-    put_bit,
+    put_bit, room_for,
 };
 use std::alloc::{AllocError, Global};
 use std::marker::Model;
@@ -35,6 +35,14 @@ impl Bits {
         let mut words = filled_words(alloc, length, bit)?;
         clear_unused(&mut words, length);
         Ok(Bits { words, length })
+    }
+
+    /// No bit, with room for so many.
+    pub fn with_room(alloc: Global, count: usize) -> Result<Bits, AllocError>
+        ensures { IfOk result (λ bits. bits ≡ []) }
+    {
+        let words = room_for(alloc, count)?;
+        Ok(Bits { words, length: 0 })
     }
 
     /// Adds a bit at the end. Where no memory is found, or the bits are as many as a `usize` can

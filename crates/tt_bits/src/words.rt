@@ -1,5 +1,5 @@
 //! The words of a list of bits.
-ghost use Rattle.std.specs.Prelude.{◌≡◌, ℕ, ◌+◌, ◌*◌, ◌^◌, ◌<◌, ◌≤◌, ◌==◌, ◌&&◌, ◌||◌, not, length, sum_by, count_ones, count_by, false, OnOk, OnErr, IfOk, if◌then◌else◌};
+ghost use Rattle.std.specs.Prelude.{◌≡◌, [], ℕ, ◌+◌, ◌*◌, ◌^◌, ◌<◌, ◌≤◌, ◌==◌, ◌&&◌, ◌||◌, not, length, sum_by, count_ones, count_by, false, OnOk, OnErr, IfOk, if◌then◌else◌};
 ghost use Rattle.tt_bits.specs.Words.{is_set, bits_of, AreWordsFor, Keeps};
 
 use std::alloc::{AllocError, Global};
@@ -15,6 +15,14 @@ pub fn filled_words(alloc: Global, length: usize, bit: bool) -> Result<Vec<u64>,
 {
     let word = if bit { u64::MAX } else { 0 };
     let words = vec![in alloc; word; length.div_ceil(WORD)]?;
+    Ok(words)
+}
+
+/// No word, with room for as many as so many bits take.
+pub fn room_for(alloc: Global, length: usize) -> Result<Vec<u64>, AllocError>
+    ensures { IfOk result (λ words. words.items ≡ []) }
+{
+    let words = Vec::with_capacity(alloc, length.div_ceil(WORD))?;
     Ok(words)
 }
 
