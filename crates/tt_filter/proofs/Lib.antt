@@ -1,3 +1,4 @@
+pub mod Decodes
 pub mod Lists
 pub mod Merging
 pub mod Operands

@@ -42,9 +42,9 @@ missing_side schema rows c none = record {
 abbrev kind_of_column : Column → Kind
 kind_of_column column = column.kind
 
-pub column_side : (schema : Schema) (table : Table) (c : ColumnName) (place : ℕ) (column : ColumnValues) → table.kinds ≡ kinds_of schema → (table_scope schema).place_of c ≡ Some place → IsColumnAt table place column → IsColumnSide schema table.rows c (side.Column column)
+pub column_side : (schema : Schema) (table : Table) (c : ColumnName) (place : ℕ) (column : Bor ColumnValues) → table.kinds ≡ kinds_of schema → (table_scope schema).place_of c ≡ Some place → IsColumnAt table place column.now → IsColumnSide schema table.rows c (side.Column column)
 column_side schema table c place column kinds there is =
-    let kind : Some (column_kind column) ≡ option_map kind_of_column (slice_get schema.columns place) =
+    let kind : Some (column_kind column.now) ≡ option_map kind_of_column (slice_get schema.columns place) =
     sym is.kind ∙ ap (λ ks. slice_get ks place) kinds ∙ slice_get-map kind_of_column schema.columns place in
     record {
       kind = kind ∙ ap (λ p. option_map kind_of_column (option_and_then (λ k. slice_get schema.columns k) p)) (sym there);

@@ -1,3 +1,4 @@
+pub mod Decoded
 pub mod Givens
 pub mod Parts
 pub mod RowTruths

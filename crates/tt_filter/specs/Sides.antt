@@ -1,4 +1,4 @@
--- What the program keeps of an operand: a decoded column, or a written value.
+-- What the program knows of an operand: a decoded column, or a written value.
 use Rattle.std.specs.Prelude.{◌≡◌, ℕ, List, Option, Some, None, slice_get}
 use Rattle.tt_value.specs.declared.value.Kind.{Kind}
 use Rattle.tt_value.specs.declared.value.Row.{Row}
@@ -23,13 +23,13 @@ use Rattle.tt_filter.specs.Givens.{given_in}
 
 abbrev pub side_kind : Side → Option Kind
 side_kind side.Missing = None
-side_kind (side.Column column) = Some (column_kind column)
+side_kind (side.Column column) = Some (column_kind column.now)
 side_kind (side.Literal v) = kind_of v.now
 
 -- its value on the row at a place, beside an operand of a kind
 abbrev pub side_value : Option Kind → Side → ℕ → Value
 side_value other side.Missing k = Null
-side_value other (side.Column column) k = value_or_null (slice_get (column_values column) k)
+side_value other (side.Column column) k = value_or_null (slice_get (column_values column.now) k)
 side_value other (side.Literal v) k = beside other v.now
 
 abbrev pub value_in : Values → ℕ → Value

@@ -24,7 +24,7 @@ fn compare_values(
     ensures { IfOk result (HasTruths
         (map (λ k. spec.compared sign (value_in left.now k) (value_in right.now k)) (range_with_len 0 rows))) }
 {
-    let mut found = Truths::new(alloc)?;
+    let mut found = Truths::with_room(alloc, rows)?;
     for at in 0..rows {
         let truth = compared(sign, value_at(left, at), value_at(right, at));
         found.push(truth)?;
@@ -37,7 +37,7 @@ fn null_values(alloc: Global, rows: usize, values: &Values<'_>) -> Result<Truths
     ensures { IfOk result (HasTruths
         (map (λ k. truth_of_bool (spec.is_null (value_in values.now k))) (range_with_len 0 rows))) }
 {
-    let mut found = Truths::new(alloc)?;
+    let mut found = Truths::with_room(alloc, rows)?;
     for at in 0..rows {
         found.push(null(value_at(values, at)))?;
     }
@@ -54,7 +54,7 @@ fn begin_values(
     ensures { IfOk result (HasTruths
         (map (λ k. spec.begins (value_in values.now k) front.now) (range_with_len 0 rows))) }
 {
-    let mut found = Truths::new(alloc)?;
+    let mut found = Truths::with_room(alloc, rows)?;
     for at in 0..rows {
         found.push(begins(value_at(values, at), front))?;
     }
@@ -65,12 +65,12 @@ fn begin_values(
 pub fn compare_sides(
     alloc: Global,
     rows: usize,
-    left: &Side<'_>,
+    left: Side<'_>,
     sign: Comparison,
-    right: &Side<'_>,
+    right: Side<'_>,
 ) -> Result<Truths, AllocError>
     ensures { IfOk result (HasTruths
-        (map (sides_compared left.now sign right.now) (range_with_len 0 rows))) }
+        (map (sides_compared left.entry sign right.entry) (range_with_len 0 rows))) }
 {
     let left_values = values_beside(side_kind(right), left);
     let right_values = values_beside(side_kind(left), right);
@@ -78,8 +78,8 @@ pub fn compare_sides(
 }
 
 /// Whether an operand is NULL, on so many rows.
-pub fn null_side(alloc: Global, rows: usize, side: &Side<'_>) -> Result<Truths, AllocError>
-    ensures { IfOk result (HasTruths (map (side_null side.now) (range_with_len 0 rows))) }
+pub fn null_side(alloc: Global, rows: usize, side: Side<'_>) -> Result<Truths, AllocError>
+    ensures { IfOk result (HasTruths (map (side_null side.entry) (range_with_len 0 rows))) }
 {
     let values = values_beside(None, side);
     null_values(alloc, rows, &values)
@@ -89,10 +89,10 @@ pub fn null_side(alloc: Global, rows: usize, side: &Side<'_>) -> Result<Truths, 
 pub fn begin_side(
     alloc: Global,
     rows: usize,
-    side: &Side<'_>,
+    side: Side<'_>,
     front: &Text,
 ) -> Result<Truths, AllocError>
-    ensures { IfOk result (HasTruths (map (side_begins side.now front.now) (range_with_len 0 rows))) }
+    ensures { IfOk result (HasTruths (map (side_begins side.entry front.now) (range_with_len 0 rows))) }
 {
     let values = values_beside(None, side);
     begin_values(alloc, rows, &values, front.as_str().as_bytes())

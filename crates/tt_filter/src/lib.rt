@@ -2,6 +2,7 @@
 #![tactic(auto)]
 
 mod conditions;
+mod decoding;
 mod given;
 mod selecting;
 mod sides;

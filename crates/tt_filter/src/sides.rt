@@ -1,14 +1,17 @@
 //! The operands of a condition: a column of the partition, or a written value.
 
-ghost use Rattle.std.specs.Prelude.{◌≡◌, ◌<◌, IfOk, IfSome, length, slice_get};
+ghost use Rattle.std.specs.Prelude.{◌≡◌, ◌<◌, IfSome, OnOk, length, slice_get};
 ghost use Rattle.tt_value.specs.declared.value.Kind.TheVariants as kinds;
 ghost use Rattle.tt_value.specs.trees.Scope.{table_scope, value_or_null};
 ghost use Rattle.tt_partition.specs.Cuts.{kinds_of};
 ghost use Rattle.tt_partition.specs.ImageReading.{number_value, text_value};
-ghost use Rattle.tt_partition.specs.ColumnView.{joined, column_values};
+ghost use Rattle.tt_partition.specs.ColumnView.{joined, column_kind, column_values};
+ghost use Rattle.tt_partition.specs.Table.{Table};
+ghost use Rattle.tt_filter.specs.Decoded.{AreDecodedOf, IsReady, IsReadyColumn, Keeps};
 ghost use Rattle.tt_filter.specs.Givens.{given_in};
 ghost use Rattle.tt_filter.specs.Sides.{side_kind as kind_of_side, side_value, value_in, IsSideOf, IsColumnSide};
 
+use crate::decoding::{decode, decoded};
 use crate::given::{Given, beside, kind_of};
 use std::alloc::AllocError;
 use tt_partition::{ColumnValues, Partition};
@@ -16,10 +19,10 @@ use tt_textcol::TextRef;
 use tt_value::{ColumnName, Kind, Operand, Schema, Value};
 
 /// What a condition looks at. A name that is no column is NULL on each row.
-#[derive(Drop)]
+#[derive(Clone, Copy)]
 pub enum Side<'a> {
     Missing,
-    Column(ColumnValues<'a>),
+    Column(&'a ColumnValues<'a>),
     Literal(&'a Value),
 }
 
@@ -42,52 +45,100 @@ fn place_of(schema: &Schema, column: &ColumnName) -> Option<usize>
         .position(|known| known.name == column.name.text)
 }
 
-/// The column of this name, decoded.
-pub fn side_of_column<'a>(
+/// Decodes the column of this name, unless it was before or there is none.
+pub fn decode_column<'a>(
     schema: &Schema,
     partition: &'a Partition,
     column: &ColumnName,
-) -> Result<Side<'a>, AllocError>
-    requires { partition.now.kinds ≡ kinds_of schema.now }
-    ensures { IfOk result (IsColumnSide schema.now partition.now.rows column.now) }
+    columns: &mut [Option<ColumnValues<'a>>],
+) -> Result<(), AllocError>
+    requires kinds { partition.now.kinds ≡ kinds_of schema.now }
+    requires columns { AreDecodedOf partition.now columns.old }
+    ensures columns { OnOk result (AreDecodedOf partition.now columns.new) }
+    ensures kept { OnOk result (Keeps columns.old columns.new) }
+    ensures there { OnOk result (IsReadyColumn schema.now columns.new column.now) }
 {
     match place_of(schema, column) {
-        None => Ok(Side::Missing),
-        Some(place) => Ok(Side::Column(partition.column(place)?)),
+        None => Ok(()),
+        Some(place) => decode(partition, place, columns),
     }
 }
 
-/// An operand over the rows of a partition. Of the columns only its own is decoded.
-pub fn side_of<'a>(
+/// Decodes the column of an operand, if it is one and was not decoded before.
+pub fn decode_operand<'a>(
     schema: &Schema,
     partition: &'a Partition,
-    operand: &'a Operand,
-) -> Result<Side<'a>, AllocError>
-    requires { partition.now.kinds ≡ kinds_of schema.now }
-    ensures { IfOk result (IsSideOf (table_scope schema.now) partition.now.rows operand.now) }
+    operand: &Operand,
+    columns: &mut [Option<ColumnValues<'a>>],
+) -> Result<(), AllocError>
+    requires kinds { partition.now.kinds ≡ kinds_of schema.now }
+    requires columns { AreDecodedOf partition.now columns.old }
+    ensures columns { OnOk result (AreDecodedOf partition.now columns.new) }
+    ensures kept { OnOk result (Keeps columns.old columns.new) }
+    ensures there { OnOk result (IsReady schema.now columns.new operand.now) }
 {
     match operand {
-        Operand::Column(column) => side_of_column(schema, partition, column),
-        Operand::Literal(literal) => Ok(Side::Literal(&literal.value)),
+        Operand::Column(column) => decode_column(schema, partition, column, columns),
+        Operand::Literal(_) => Ok(()),
+    }
+}
+
+/// The column of this name, which was decoded if it is there.
+pub fn side_of_column<'c, 'a: 'c>(
+    schema: &Schema,
+    columns: &'c [Option<ColumnValues<'a>>],
+    column: &ColumnName,
+) -> Side<'c>
+    requires { IsReadyColumn schema.now columns.now column.now }
+    ensures { (table : Table) → table.kinds ≡ kinds_of schema.now → AreDecodedOf table columns.now
+        → IsColumnSide schema.now table.rows column.now result }
+{
+    match place_of(schema, column) {
+        None => Side::Missing,
+        Some(place) => Side::Column(decoded(columns, place)),
+    }
+}
+
+/// An operand over the rows of a partition, whose column was decoded if it is one.
+pub fn side_of<'c, 'a: 'c>(
+    schema: &Schema,
+    columns: &'c [Option<ColumnValues<'a>>],
+    operand: &'c Operand,
+) -> Side<'c>
+    requires { IsReady schema.now columns.now operand.now }
+    ensures { (table : Table) → table.kinds ≡ kinds_of schema.now → AreDecodedOf table columns.now
+        → IsSideOf (table_scope schema.now) table.rows operand.now result }
+{
+    match operand {
+        Operand::Column(column) => side_of_column(schema, columns, column),
+        Operand::Literal(literal) => Side::Literal(&literal.value),
     }
 }
 
 /// The kind of an operand; NULL has none.
-pub fn side_kind(side: &Side<'_>) -> Option<Kind>
-    ensures { result ≡ kind_of_side side.now }
+pub fn side_kind(side: Side<'_>) -> Option<Kind>
+    ensures { result ≡ kind_of_side side.entry }
 {
     match side {
         Side::Missing => None,
-        Side::Column(ColumnValues::Ints(_)) => Some(Kind::Int),
-        Side::Column(ColumnValues::Dates(_)) => Some(Kind::Date),
-        Side::Column(ColumnValues::Texts(_)) => Some(Kind::Varchar),
+        Side::Column(column) => Some(kind_of_column(column)),
         Side::Literal(value) => kind_of(value),
     }
 }
 
+fn kind_of_column(column: &ColumnValues<'_>) -> Kind
+    ensures { result ≡ column_kind column.now }
+{
+    match column {
+        ColumnValues::Ints(_) => Kind::Int,
+        ColumnValues::Dates(_) => Kind::Date,
+        ColumnValues::Texts(_) => Kind::Varchar,
+    }
+}
+
 /// The values of an operand beside one of a kind.
-pub fn values_beside<'a, 'b: 'a>(other: Option<Kind>, side: &'a Side<'b>) -> Values<'a>
-    ensures { (k : _) → value_in result k ≡ side_value other side.now k }
+pub fn values_beside<'a>(other: Option<Kind>, side: Side<'a>) -> Values<'a>
+    ensures { (k : _) → value_in result k ≡ side_value other side.entry k }
 {
     match side {
         Side::Missing => Values::Same(Given::Null),

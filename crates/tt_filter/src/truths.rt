@@ -47,11 +47,13 @@ impl Truths {
         Ok(Truths { trues, falses })
     }
 
-    /// Of no row.
-    pub fn new(alloc: Global) -> Result<Truths, AllocError>
+    /// Of no row, with room for so many.
+    pub fn with_room(alloc: Global, count: usize) -> Result<Truths, AllocError>
         ensures { IfOk result (HasTruths []) }
     {
-        Truths::filled(alloc, 0, Truth::False)
+        let trues = Bits::with_room(alloc, count)?;
+        let falses = Bits::with_room(alloc, count)?;
+        Ok(Truths { trues, falses })
     }
 
     /// One more row.

@@ -23,6 +23,6 @@ loop-literal-preserved c = (
   c.loop-literal.invariant.1,
 )
 
-pub returns : goal.returns
-returns c =
+pub returns-clause-truths : goal.returns-clause-truths
+returns-clause-truths c =
     listed_whole (table_scope c.args.schema.now) c.args.partition.now.rows c.loop-literal.found c.args.operand.now c.args.literals.now c.loop-literal.literal-index c.loop-literal-test.false c.loop-literal.invariant.0
