@@ -1,4 +1,5 @@
 pub mod Choices
+pub mod Columns
 pub mod Names
 pub mod Prunes
 pub mod Scans

@@ -1,7 +1,7 @@
 //! The rows of a table's partitions that a predicate takes. Partitions whose zones rule a match out are not read.
 #![tactic(auto)]
 
-mod choosing;
+mod picking;
 mod planning;
 mod scanning;
 

@@ -3,12 +3,11 @@
 ghost use Rattle.std.specs.Prelude.{◌≡◌, ◌++◌, All, IfOk, OnOk, Some};
 ghost use Rattle.tt_value.specs.values.RowText.{IsPrintable};
 ghost use Rattle.tt_partition.specs.Cuts.{kinds_of};
-ghost use Rattle.tt_partition.specs.Table.{IsPart};
 ghost use Rattle.tt_scan.specs.Held as spec;
 ghost use Rattle.tt_state.specs.Held.{rows_held};
 ghost use Rattle.tt_scan.specs.Held.{IsOfItsSchema, rows_taken};
 
-use crate::choosing::append_chosen;
+use crate::picking::{append_chosen, is_part};
 use std::alloc::{AllocError, Global};
 use tt_filter::select;
 use tt_partition::Partition;
@@ -36,8 +35,7 @@ fn append_selected(
         ≡ rows.old.items ++ rows_taken schema.now (Some predicate.now) partition.now.rows) }
 {
     let bits = select(alloc, schema, partition, predicate)?;
-    let found = partition.rows()?;
-    append_chosen(found, &bits, rows)
+    append_chosen(alloc, partition, &bits, rows)
 }
 
 /// A partition whose zones say that no row may match is not read, and where they say that each one does the
@@ -86,13 +84,6 @@ fn append_taken(
         None => append_all(partition, rows),
         Some(predicate) => append_where(alloc, schema, partition, predicate, rows),
     }
-}
-
-/// A partition holds no other values than those of its kinds.
-fn is_part(partition: &Partition)
-    ensures { IsPart partition.now }
-{
-    let _image = partition.image();
 }
 
 /// The rows of the table's partitions that a predicate takes, or all where there is none: partition by partition, each
