@@ -48,7 +48,7 @@ loop-session-preserved c =
     let at = session_at c.args.program.now c.script.result.now c.items-sessions.result.now c.loop-session.session c.index-sessions-session.result c.items-sessions.ensures c.script.ensures.value (omega arith) c.index-sessions-session.is in
     record {
       same_program = after.program ∙ sym c.requires.same;
-      same_cap = after.rows ∙ before.same_cap;
+      same_cap = after.cap ∙ before.same_cap;
       replies = after.replies;
       done = one_more_done c.args.program.now (store_of c.loop-session.cat) (store_of c.run_session.new.cat) c.loop-session.session c.index-sessions-session.result at before.done after.others after.done;
       new = next_new c.args.program.now (store_of c.loop-session.cat) (store_of c.run_session.new.cat) c.loop-session.session before.new after.others;
