@@ -63,7 +63,7 @@ fn append_where(
 }
 
 /// Nothing but true is possible.
-fn is_sure(truths: TruthSet) -> bool
+pub fn is_sure(truths: TruthSet) -> bool
     ensures { result ≡ spec.is_sure truths }
 {
     !truths.has_false && !truths.has_unknown
