@@ -1,3 +1,4 @@
+pub mod RowCounts
 pub mod OneTable
 pub mod Printable
 pub mod Whole

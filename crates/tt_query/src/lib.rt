@@ -2,5 +2,6 @@
 #![tactic(auto)]
 
 mod answering;
+mod counted;
 
 pub use answering::answer;

@@ -5,7 +5,7 @@ use Rattle.tt_agg.specs.declared.error.AggregateError.{AggregateError}
 use Rattle.tt_query.specs.Answer.{answer_from}
 use Rattle.tt_query.proofs.OneTable.{answered, out_of_range}
 use Rattle.tt_query.proofs.Printable.{printable}
-use Rattle.tt_query.proofs.answering.answer_over.Goals as goal
+use Rattle.tt_query.proofs.answering.answer_of_rows.Goals as goal
 
 pub returns-in_err-selected-clause-out : goal.returns-in_err-selected-clause-out
 returns-in_err-selected-clause-out c =
