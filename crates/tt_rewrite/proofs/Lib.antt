@@ -1,0 +1,6 @@
+pub mod Bits
+pub mod Deleted
+pub mod Fits
+pub mod Parts
+pub mod Same
+pub mod Zones
