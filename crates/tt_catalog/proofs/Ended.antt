@@ -1,29 +1,36 @@
 -- What is kept where an open statement has ended without a change: it pins nothing, and its marks are again those before it.
 use Rattle.std.specs.Prelude.{List, None, Ok, Option, Result, Some, [], false, fold, if◌then◌else◌, map, not, refl, slice_set, unwrap_or, ℕ, ◌+◌, ◌==◌, ◌∷◌, ◌≡◌, ◌≢◌}
-use Rattle.std.proofs.Common.{ap, arith, sym, ◌∙◌}
+use Rattle.std.proofs.Common.{ap, arith, subst, sym, ◌∙◌}
 use Rattle.tt_sql.specs.declared.query.Query.{Query}
 use Rattle.tt_sql.specs.declared.statement.Statement.{Statement}
 use Rattle.tt_value.specs.declared.value.Row.{Row}
 use Rattle.tt_marks.specs.Changes.{released}
 use Rattle.tt_marks.specs.Marks.{marks_of}
 use Rattle.tt_marks.specs.declared.mark.Mark.{Mark}
+use Rattle.tt_history.specs.Refusals.{refusal_number}
+use Rattle.tt_history.specs.declared.history.Told.{Told}
+use Rattle.tt_history.specs.declared.reply.Refusal.{Refusal}
+use Rattle.tt_history.specs.declared.reply.Reply.{Reply}
+use Rattle.tt_plain.proofs.Tests.{same_test}
+use Rattle.tt_script.specs.Lines.{only_if}
 use Rattle.tt_plain.specs.Answers.{◌>>=◌}
 use Rattle.tt_plain.specs.asked.Asked.{Asked, request_asked}
 use Rattle.tt_plain.specs.asked.Turns.{asked_with}
 use Rattle.tt_plain.specs.declared.store.Plain.{Plain}
 use Rattle.tt_plain.specs.declared.store.PlainOpen.{PlainOpen}
 use Rattle.tt_plain.specs.declared.store.PlainSession.{PlainSession}
-use Rattle.tt_plain.specs.effect.Abandon.{given_up}
+use Rattle.tt_plain.specs.effect.Abandon.{abandon_effect, failure, given_up}
 use Rattle.tt_plain.specs.effect.Apply.{applied, changed_point}
 use Rattle.tt_plain.specs.effect.End.{answered}
-use Rattle.tt_plain.specs.effect.Ending.{ended_with}
+use Rattle.tt_plain.specs.effect.Ending.{ended_with, refused_effect}
 use Rattle.tt_plain.specs.history.Contents.{contents_with}
 use Rattle.tt_plain.specs.history.TrueFacts.{RemovesTouched, replaced_by}
 use Rattle.tt_plain.specs.law.Sound.{IsSound}
-use Rattle.tt_plain.specs.meaning.Outcome.{Answers, answer_seen, outcome_of, query_outcome}
+use Rattle.tt_plain.specs.meaning.Outcome.{Answers, Fails, Outcome, answer_seen, outcome_of, query_outcome}
 use Rattle.tt_plain.specs.stored.Points.{point_place}
 use Rattle.tt_plain.specs.stored.Sessions.{session_at}
 use Rattle.tt_plain.specs.tally.Changes.{with_pins}
+use Rattle.tt_plain.specs.text.RefusalTable.{refusal_row, refusal_number as plain_number}
 use Rattle.tt_built.specs.Built.{built}
 use Rattle.tt_state.proofs.Ended.{closed_at, state_is}
 use Rattle.tt_state.proofs.Goes.{GoesOn, alone_now, ended_less, idle_now, marks_now, parts_stay, same_marks, sessions_now, tables_stay}
@@ -32,16 +39,18 @@ use Rattle.tt_state.proofs.Filters.{filter_keeps, filter_none}
 use Rattle.tt_state.proofs.Pins.{not_own, other_pins, own_gone, own_pins, pins_left}
 use Rattle.tt_state.proofs.Steps.{abandon_starved, abandon_step, end_is, end_step}
 use Rattle.tt_state.proofs.TrueFacts.{adds_no_part}
-use Rattle.tt_state.proofs.Turns.{IsOpen, is_open}
+use Rattle.tt_state.proofs.Turns.{IsOpen, is_open, ready}
 use Rattle.tt_state.specs.Chronicle.{Chronicle, IsOpenRead, entry_at, rows_of, store_of}
 use Rattle.tt_state.specs.Keeps.{StandsFor, mark_of}
 use Rattle.tt_state.specs.Kept.{Kept}
-use Rattle.tt_state.specs.Moves.{with_ended}
+use Rattle.tt_state.specs.Moves.{IsReady, with_ended}
+use Rattle.tt_state.specs.declared.ticket.Ticket.{Ticket}
 use Rattle.tt_history.specs.declared.history.EntryKind.TheVariants as kind
 use Rattle.tt_history.specs.declared.history.Told.TheVariants as told
+use Rattle.tt_history.specs.declared.reply.Refusal.TheVariants as refusal
 use Rattle.tt_history.specs.declared.reply.Reply.TheVariants as reply
 use Rattle.tt_sql.specs.declared.statement.Statement.TheVariants as tree
-use Rattle.tt_catalog.specs.Ends.{with_released, with_unpinned}
+use Rattle.tt_catalog.specs.Ends.{GivesUp, with_released, with_unpinned}
 
 -- ---- what is left of marks
 
@@ -87,20 +96,21 @@ module _ (chronicle : Chronicle) (kept : Kept) (room session index : ℕ) (read 
   abbrev given : PlainSession
   given = record (session_at store session) { done = index; running = None; marks = seen.marks_before }
 
-  abbrev abandoned : Plain
-  abandoned = applied store (given_up (asked, seen) (ended_with asked reply.Memory))
+  abbrev abandoned : Reply → Plain
+  abandoned answer = applied store (given_up (asked, seen) (ended_with asked answer))
 
   abbrev now_abandoned : Kept
   now_abandoned = with_ended chronicle.program (with_unpinned (with_released kept session) session) session index
 
-  pub abandoned_goes : (after : Plain) × GoesOn chronicle kept now_abandoned (entry_at store.moment session index (kind.Abandon told.Memory)) after (Some reply.Memory)
+  pub abandoned_goes : (why : Told) (answer : Reply) → abandon_effect (asked, seen) why ≡ Some (given_up (asked, seen) (ended_with asked answer))
+      → (after : Plain) × GoesOn chronicle kept now_abandoned (entry_at store.moment session index (kind.Abandon why)) after (Some answer)
   unfolding applied ended_with
-  abandoned_goes =
-      let entry = entry_at store.moment session index (kind.Abandon told.Memory) in (
-        abandoned,
+  abandoned_goes why answer is =
+      let entry = entry_at store.moment session index (kind.Abandon why) in (
+        abandoned answer,
         record {
-          step = abandon_step built chronicle.program store session index asked seen told.Memory (given_up (asked, seen) (ended_with asked reply.Memory)) found (abandon_starved asked seen) refl;
-          less = ended_less chronicle.program store abandoned session index opened.lines opened.state given opened.turn refl refl refl;
+          step = abandon_step built chronicle.program store session index asked seen why (given_up (asked, seen) (ended_with asked answer)) found is refl;
+          less = ended_less chronicle.program store (abandoned answer) session index opened.lines opened.state given opened.turn refl refl refl;
           few = omega arith;
           true_entry = adds_no_part built chronicle.program chronicle.cap (rows_of chronicle) store entry refl tt tt;
           parts = parts_stay kept.parts kept.parts refl;
@@ -108,17 +118,84 @@ module _ (chronicle : Chronicle) (kept : Kept) (room session index : ℕ) (read 
               stands.tables refl refl (contents_same built chronicle.program (rows_of chronicle) (store, entry) refl) refl refl refl;
           sessions = record {
             moment = ap (λ m. m + 1) stands.sessions.moment;
-            sessions = sessions_now chronicle.program store abandoned session index opened.lines opened.state given opened.turn refl kept.sessions stands.sessions.sessions;
-            marks = marks_now chronicle.program store abandoned session index opened.lines opened.state given opened.turn refl kept.marks (released session kept.marks) stands.sessions.marks
+            sessions = sessions_now chronicle.program store (abandoned answer) session index opened.lines opened.state given opened.turn refl kept.sessions stands.sessions.sessions;
+            marks = marks_now chronicle.program store (abandoned answer) session index opened.lines opened.state given opened.turn refl kept.marks (released session kept.marks) stands.sessions.marks
                 (own_released session kept.marks ∙ ap (map (mark_of session)) (sym unmarked)) (λ other ne. others_stay session other kept.marks ne);
             pins = pins_left session store.tally kept.pins stands.sessions.pins;
-            idle = idle_now chronicle.program store abandoned session index opened.lines opened.state given opened.turn refl stands.sessions.idle (λ none. own_pins session store.tally.pins [] tt) (λ other ne. other_pins session store.tally.pins [] other tt ne);
+            idle = idle_now chronicle.program store (abandoned answer) session index opened.lines opened.state given opened.turn refl stands.sessions.idle (λ none. own_pins session store.tally.pins [] tt) (λ other ne. other_pins session store.tally.pins [] other tt ne);
             points = points_at stands.sessions.points;
-            alone = alone_now chronicle.program store abandoned session index opened.lines opened.state given opened.turn refl stands.sessions.alone closed;
+            alone = alone_now chronicle.program store (abandoned answer) session index opened.lines opened.state given opened.turn refl stands.sessions.alone closed;
             settled = stands.sessions.settled;
           };
         },
       )
+
+-- ---- why it is given up
+
+-- both tables of the refusals have the same numbers
+same_numbers : (r : Refusal) → plain_number r ≡ refusal_number r
+unfolding refusal_row
+same_numbers (refusal.Syntax place) = refl
+same_numbers (refusal.UnknownTable place) = refl
+same_numbers (refusal.TableExists place) = refl
+same_numbers (refusal.UnknownColumn place) = refl
+same_numbers (refusal.WrongCount place) = refl
+same_numbers (refusal.TypeMismatch place) = refl
+same_numbers (refusal.NullInNotNull place) = refl
+same_numbers (refusal.RetentionRange place) = refl
+same_numbers (refusal.KindMismatch place) = refl
+same_numbers (refusal.UnknownFile place) = refl
+same_numbers refusal.InFuture = refl
+same_numbers refusal.UnknownStatement = refl
+same_numbers refusal.StatementOpen = refl
+same_numbers (refusal.NotYetMade made) = refl
+same_numbers (refusal.OutsideRetention horizon) = refl
+same_numbers refusal.NothingToUndrop = refl
+same_numbers (refusal.LockHeld session) = refl
+same_numbers refusal.ClockEnd = refl
+same_numbers refusal.InTransaction = refl
+same_numbers (refusal.BadData number column) = refl
+same_numbers refusal.OutOfRange = refl
+same_numbers (refusal.NullInRow column) = refl
+
+-- by the refusal that the statement means over what it sees
+failed_effect : (asked : Asked) (seen : PlainOpen) (why : Refusal) → outcome_of asked seen ≡ Some (Fails why)
+    → abandon_effect (asked, seen) (told.Refused (refusal_number why)) ≡ Some (given_up (asked, seen) (ended_with asked (reply.Refused why)))
+unfolding abandon_effect refused_effect
+failed_effect asked seen why is =
+    ap (λ (o : Option Outcome). o >>= λ outcome. refused_effect asked (failure outcome) (refusal_number why) >>= λ effect. Some (given_up (asked, seen) effect)) is
+    ∙ ap (λ b. (only_if b why >>= λ same. Some (ended_with asked (reply.Refused same))) >>= λ effect. Some (given_up (asked, seen) effect))
+    (ap (λ n. n == refusal_number why) (same_numbers why) ∙ same_test (refusal_number why))
+
+abbrev pub now_given_up : Chronicle → Kept → Ticket → Kept
+now_given_up chronicle kept ticket = with_ended chronicle.program (with_unpinned (with_released kept ticket.session) ticket.session) ticket.session ticket.index
+
+abbrev pub GoesAbandoned : Chronicle → Kept → Ticket → Told → Reply → Type 0
+GoesAbandoned chronicle kept ticket why answer =
+    (after : Plain) × GoesOn chronicle kept (now_given_up chronicle kept ticket) (entry_at (store_of chronicle).moment ticket.session ticket.index (kind.Abandon why)) after (Some answer)
+
+pub given_up_goes : (chronicle : Chronicle) (kept : Kept) (room : ℕ) (ticket : Ticket) (why : Told) (answer : Reply) → StandsFor chronicle kept room → GivesUp chronicle ticket why answer → GoesAbandoned chronicle kept ticket why answer
+given_up_goes chronicle kept room ticket told.Done answer stands gives = absurd gives
+given_up_goes chronicle kept room ticket (told.Refused number) answer stands gives =
+    let failed = gives.1 in
+    let asked = asked_with chronicle.program (store_of chronicle) ticket.session ticket.index failed.read in
+    subst (λ (a : Reply). GoesAbandoned chronicle kept ticket (told.Refused number) a) (sym gives.3)
+    (subst (λ (n : ℕ). GoesAbandoned chronicle kept ticket (told.Refused n) (reply.Refused gives.0)) (sym gives.2)
+    (abandoned_goes chronicle kept room ticket.session ticket.index failed.read failed.seen stands failed.is_open (told.Refused (refusal_number gives.0)) (reply.Refused gives.0) (failed_effect asked failed.seen gives.0 failed.outcome)))
+given_up_goes chronicle kept room ticket told.Memory answer stands gives =
+    let open_one = gives.0 in
+    subst (λ (a : Reply). GoesAbandoned chronicle kept ticket told.Memory a) (sym gives.1)
+    (abandoned_goes chronicle kept room ticket.session ticket.index open_one.0 open_one.1 stands open_one.2 told.Memory reply.Memory (abandon_starved (asked_with chronicle.program (store_of chronicle) ticket.session ticket.index open_one.0) open_one.1))
+
+-- the statement that is given up is the session's open one
+pub given_up_opened : (chronicle : Chronicle) (kept : Kept) (room : ℕ) (ticket : Ticket) (why : Told) (answer : Reply) → StandsFor chronicle kept room → GivesUp chronicle ticket why answer → IsReady chronicle.program kept ticket.session ticket.index
+given_up_opened chronicle kept room ticket told.Done answer stands gives = absurd gives
+given_up_opened chronicle kept room ticket (told.Refused number) answer stands gives =
+    let failed = gives.1 in
+    ready chronicle kept room ticket.session ticket.index _ _ stands (opened chronicle kept room ticket.session ticket.index failed.read failed.seen stands failed.is_open).turn
+given_up_opened chronicle kept room ticket told.Memory answer stands gives =
+    let open_one = gives.0 in
+    ready chronicle kept room ticket.session ticket.index _ _ stands (opened chronicle kept room ticket.session ticket.index open_one.0 open_one.1 stands open_one.2).turn
 
 -- ---- a query answered
 

@@ -67,12 +67,12 @@ numbers_there kept name table all live number e =
 
 -- ---- a part by its number
 
-some_at : {A : Type 0} (xs : List A) (k : ℕ) → k < length xs → (x : A) × (slice_get xs k ≡ Some x)
+pub some_at : {A : Type 0} (xs : List A) (k : ℕ) → k < length xs → (x : A) × (slice_get xs k ≡ Some x)
 some_at [] k less = absurd (omega (arith, less))
 some_at (x ∷ xs) zero less = (x, refl)
 some_at (x ∷ xs) (suc k) less = some_at xs k (omega (arith, less))
 
-true_at : (tables : List PlainTable) (contents : List (List Row)) (first number : ℕ) (parts : List StoredPart) (k : ℕ) (part : StoredPart) → AreTrueParts tables contents first parts → slice_get parts k ≡ Some part → number ≡ first + k
+pub true_at : (tables : List PlainTable) (contents : List (List Row)) (first number : ℕ) (parts : List StoredPart) (k : ℕ) (part : StoredPart) → AreTrueParts tables contents first parts → slice_get parts k ≡ Some part → number ≡ first + k
     → IsTruePart tables contents number part
 true_at tables contents first number [] k part all e is = absurd (none-some part e)
 true_at tables contents first number (p ∷ parts) zero part all e is =
@@ -131,7 +131,7 @@ stand_for chronicle (s ∷ seen) (pin ∷ pins) (h ∷ held) forms holds =
     ((holds.0.table ∙ forms.0.0, ap bag_of (rows_are chronicle pin h holds.0) ∙ forms.0.1), stand_for chronicle seen pins held forms.1 holds.1)
 
 -- by the law of bags, whose conditions each catalog meets
-formed : (chronicle : Chronicle) (kept : Kept) (room : ℕ) → StandsFor chronicle kept room → BagsAreFormed built chronicle.program (rows_of chronicle) (store_of chronicle)
+pub formed : (chronicle : Chronicle) (kept : Kept) (room : ℕ) → StandsFor chronicle kept room → BagsAreFormed built chronicle.program (rows_of chronicle) (store_of chronicle)
 formed chronicle kept room stands =
     let run = stands.legal.run in
     subst (BagsAreFormed built chronicle.program (rows_of chronicle)) (sym (store_is built chronicle.program chronicle.history run stands.legal.replayed))

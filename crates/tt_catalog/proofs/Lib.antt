@@ -1,10 +1,11 @@
+pub mod Carried
 pub mod Changed
 pub mod Cuts
 pub mod Ended
 pub mod Held
-pub mod Holds
 pub mod Inserted
 pub mod Landed
+pub mod Locks
 pub mod Marked
 pub mod MayLand
 pub mod Numbered

@@ -58,6 +58,12 @@ shared_is : (session table : ℕ) (marks : List Mark) → marks_of session marks
 shared_is session table marks none =
     ap (λ o. if is_some (option_map (λ (mark : Mark). mark.exclusive) o) then marks else marked session table false marks) (unmarked session table marks none)
 
+pub own_marked : (session table : ℕ) (exclusive : Bool) (marks : List Mark) → marks_of session marks ≡ [] → marks_of session (marked session table exclusive marks) ≡ record { session = session; table = table; exclusive = exclusive } ∷ []
+own_marked session table exclusive marks none = alone_now session (record { session = session; table = table; exclusive = exclusive }) marks refl none
+
+pub others_marked : (session table other : ℕ) (exclusive : Bool) (marks : List Mark) → other ≢ session → marks_of other (marked session table exclusive marks) ≡ marks_of other marks
+others_marked session table other exclusive marks ne = others_keep session other (record { session = session; table = table; exclusive = exclusive }) marks refl (λ e. ne (sym e))
+
 pub own_shared : (session table : ℕ) (marks : List Mark) → marks_of session marks ≡ [] → marks_of session (shared session table marks) ≡ record { session = session; table = table; exclusive = false } ∷ []
 own_shared session table marks none =
     ap (marks_of session) (shared_is session table marks none) ∙ alone_now session (record { session = session; table = table; exclusive = false }) marks refl none

@@ -33,6 +33,8 @@ use Rattle.tt_plain.specs.history.Contents.{contents_with}
 use Rattle.tt_plain.specs.law.Bag.{pins_of}
 use Rattle.tt_plain.specs.law.Lists.{Every}
 use Rattle.tt_plain.specs.law.Sound.{IsSound}
+use Rattle.tt_plain.specs.TypingRefusal.{typing_refusal}
+use Rattle.tt_plain.specs.refusal.{first_some}
 use Rattle.tt_plain.specs.refusal.First.{refusal_of}
 use Rattle.tt_plain.specs.stored.Names.{table_named}
 use Rattle.tt_plain.specs.stored.Points.{no_point_yet, point_place}
@@ -58,17 +60,19 @@ use Rattle.tt_state.specs.declared.state.SessionState.{SessionState}
 use Rattle.tt_state.specs.declared.state.TableState.{TableState}
 use Rattle.tt_history.specs.declared.history.EntryKind.TheVariants as kind
 use Rattle.tt_history.specs.declared.history.Told.TheVariants as told
+use Rattle.tt_history.specs.declared.reply.Refusal.TheVariants as refusal
 use Rattle.tt_history.specs.declared.reply.Reply.TheVariants as reply
 use Rattle.tt_plain.specs.asked.Event as event
-use Rattle.tt_catalog.proofs.OneTable.{table_over}
-use Rattle.tt_catalog.specs.Starts.{IsAccepted, refusal_kept, refusal_over}
+use Rattle.tt_catalog.proofs.Locks.{holder_tied}
+use Rattle.tt_catalog.proofs.OneTable.{lock_over, table_over, tables_over, taken_over}
+use Rattle.tt_catalog.specs.Starts.{IsLiveTable, lock_on, refusal_alone, refusal_both, refusal_kept, refusal_over, refusal_over_both}
 
 -- the refusal over what is kept of a table is that over the table
 over_tied : (f : PlainTable → TableState) → ((table : PlainTable) → (f table).schema ≡ table.schema) → (name : TableName) (s : Statement) (found : Option PlainTable) → refusal_over (option_map f found) name s ≡ table_over name s found
 over_tied f same name s None = refl
 over_tied f same name s (Some table) = ap (λ schema. refusal_over (Some (record (f table) { schema = schema })) name s) (same table)
 
-abbrev IsPinOf : ℕ → TallyPin → Type 0
+abbrev pub IsPinOf : ℕ → TallyPin → Type 0
 IsPinOf session pin = pin.session ≡ session
 
 -- one more pin of a session that had none
@@ -104,7 +108,16 @@ begun_effect chronicle session index s seen marks pins =
 abbrev pub begun_store : Chronicle → ℕ → ℕ → Statement → PlainOpen → List PlainMark → List TallyPin → Plain
 begun_store chronicle session index s seen marks pins = applied (store_of chronicle) (begun_effect chronicle session index s seen marks pins)
 
-module _ (chronicle : Chronicle) (kept : Kept) (room session index : ℕ) (name : TableName) (s : Statement) (stands : StandsFor chronicle kept room) (read : IsNextRead chronicle session index (Ok s)) where
+-- the same of two tables
+both_tied_by : (f : PlainTable → TableState) → ((table : PlainTable) → (f table).schema ≡ table.schema) → (target from : TableName) (s : Statement) (a b : Option PlainTable)
+    → refusal_over_both (option_map f a) (option_map f b) target from s ≡ tables_over target from s a b
+both_tied_by f same target from s None None = refl
+both_tied_by f same target from s None (Some read) = refl
+both_tied_by f same target from s (Some table) None = refl
+both_tied_by f same target from s (Some table) (Some read) =
+    ap (λ schema. typing_refusal (schema ∷ (f read).schema ∷ []) s) (same table) ∙ ap (λ schema. typing_refusal (table.schema ∷ schema ∷ []) s) (same read)
+
+module _ (chronicle : Chronicle) (kept : Kept) (room session index : ℕ) (s : Statement) (stands : StandsFor chronicle kept room) (read : IsNextRead chronicle session index (Ok s)) where
   abbrev store : Plain
   store = store_of chronicle
 
@@ -138,29 +151,46 @@ module _ (chronicle : Chronicle) (kept : Kept) (room session index : ℕ) (name 
   moves_none : (t : Told) → IsTrueEntry built chronicle.program chronicle.cap (rows_of chronicle) store (entry_at store.moment session index (kind.Start t))
   moves_none t = adds_no_part built chronicle.program chronicle.cap (rows_of chronicle) store (entry_at store.moment session index (kind.Start t)) refl tt tt
 
-  module _ (over : refusal_of asked ≡ table_over name s (table_asked asked name)) where
-    refused_as : refusal_kept kept name s ≡ refusal_of asked
-    refused_as =
-        ap (λ found. refusal_over found name s) (live_tied chronicle.program store (rows_of chronicle) kept sound stands.tables session name)
-        ∙ over_tied (table_of store.tally) (λ table. refl) name s (table_asked asked name) ∙ sym over
+  -- ---- what is kept of a table, and why the statement is refused over it
 
-    -- the table to which the statement fits
-    pub table_is : (table : TableState) → IsAccepted kept name s table → (plain : PlainTable) × (table_asked asked name ≡ Some plain) × (table ≡ table_of store.tally plain) × IsTable store plain
-    unfolding table_named
-    table_is table accepted = by (table_asked asked name) refl
-      where
-        tied : live_kept kept name.name.text ≡ option_map (table_of store.tally) (table_asked asked name)
-        tied = live_tied chronicle.program store (rows_of chronicle) kept sound stands.tables session name
+  tied : (name : TableName) → live_kept kept name.name.text ≡ option_map (table_of store.tally) (table_asked asked name)
+  tied name = live_tied chronicle.program store (rows_of chronicle) kept sound stands.tables session name
 
-        by : (found : Option PlainTable) → table_asked asked name ≡ found → (plain : PlainTable) × (table_asked asked name ≡ Some plain) × (table ≡ table_of store.tally plain) × IsTable store plain
-        by None e = absurd (none-some table (sym (ap (option_map (table_of store.tally)) e) ∙ sym tied ∙ accepted.live))
-        by (Some plain) e =
-            let place = found_at (is_live_as name.name.text) store.tables plain e in
-            (plain, e, same_Some table (table_of store.tally plain) (sym accepted.live ∙ tied ∙ ap (option_map (table_of store.tally)) e), is_table built chronicle.program store place.0 plain sound place.1)
+  pub one_tied : (name : TableName) → refusal_kept kept name s ≡ table_over name s (table_asked asked name)
+  one_tied name = ap (λ found. refusal_over found name s) (tied name) ∙ over_tied (table_of store.tally) (λ table. refl) name s (table_asked asked name)
 
+  pub both_tied : (target from : TableName) → refusal_both kept target from s ≡ tables_over target from s (table_asked asked target) (table_asked asked from)
+  both_tied target from =
+      ap (λ found. refusal_over_both found (live_kept kept from.name.text) target from s) (tied target)
+      ∙ ap (λ found. refusal_over_both (option_map (table_of store.tally) (table_asked asked target)) found target from s) (tied from)
+      ∙ both_tied_by (table_of store.tally) (λ table. refl) target from s (table_asked asked target) (table_asked asked from)
+
+  lock_by : (found : Option PlainTable) → lock_on kept session (option_map (table_of store.tally) found) ≡ lock_over store session found
+  lock_by None = refl
+  lock_by (Some table) = ap (option_map refusal.LockHeld) (sym (holder_tied store kept.marks session table.number stands.sessions.marks (sound.holders table.number)))
+
+  pub alone_tied : (name : TableName) → refusal_alone kept session name s ≡ taken_over store session name s (table_asked asked name)
+  alone_tied name =
+      ap (λ o. first_some (o ∷ lock_on kept session (live_kept kept name.name.text) ∷ [])) (one_tied name)
+      ∙ ap (λ o. first_some (table_over name s (table_asked asked name) ∷ o ∷ [])) (ap (lock_on kept session) (tied name) ∙ lock_by (table_asked asked name))
+
+  -- the table of a name
+  pub table_is : (name : TableName) (table : TableState) → IsLiveTable kept name table → (plain : PlainTable) × (table_asked asked name ≡ Some plain) × (table ≡ table_of store.tally plain) × IsTable store plain
+  unfolding table_named
+  table_is name table live = by (table_asked asked name) refl
+    where
+      by : (found : Option PlainTable) → table_asked asked name ≡ found → (plain : PlainTable) × (table_asked asked name ≡ Some plain) × (table ≡ table_of store.tally plain) × IsTable store plain
+      by None e = absurd (none-some table (sym (ap (option_map (table_of store.tally)) e) ∙ sym (tied name) ∙ live))
+      by (Some plain) e =
+          let place = found_at (is_live_as name.name.text) store.tables plain e in
+          (plain, e, same_Some table (table_of store.tally plain) (sym live ∙ tied name ∙ ap (option_map (table_of store.tally)) e), is_table built chronicle.program store place.0 plain sound place.1)
+
+  -- ---- the statement starts
+
+  module _ (given : Option Refusal) (refused_as : given ≡ refusal_of asked) where
     module _ (due : is_same_event event.Start (first_event (state_asked asked).transaction (request_asked asked)) ≡ true) where
       -- refused, or without memory
-      pub refused_goes : (why : Refusal) → refusal_kept kept name s ≡ Some why
+      pub refused_goes : (why : Refusal) → given ≡ Some why
           → (after : Plain) × GoesOn chronicle kept (with_ended chronicle.program kept session index) (entry_at store.moment session index (kind.Start (told.Refused (refusal_number why)))) after (Some (reply.Refused why))
       unfolding ended_with
       refused_goes why e = (
@@ -197,7 +227,7 @@ module _ (chronicle : Chronicle) (kept : Kept) (room session index : ℕ) (name 
         counted : index - 1 ≡ (session_at store session).done
         counted = omega (arith, next.turn.counted, ap (λ (state : PlainSession). state.done) at)
 
-        pub begun_goes : seen.index ≡ index → refusal_kept kept name s ≡ None → begun_by asked (request_asked asked) ≡ Some (begun_effect chronicle session index s seen marks pins)
+        pub begun_goes : seen.index ≡ index → given ≡ None → begun_by asked (request_asked asked) ≡ Some (begun_effect chronicle session index s seen marks pins)
             → Every (IsPinOf session) pins → ArePins (record store.tally { pins = with_pins session pins store.tally.pins }) now_pins
             → marks_of session now_marks ≡ map (mark_of session) marks → ((other : ℕ) → other ≢ session → marks_of other now_marks ≡ marks_of other kept.marks)
             → GoesOn chronicle kept now (entry_at store.moment session index (kind.Start told.Done)) store_then None

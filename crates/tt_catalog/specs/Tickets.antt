@@ -1,6 +1,6 @@
 -- Tickets of open statements: the tables that they hold, with the parts that are pinned for them.
 use Rattle.std.specs.List.{AllZip}
-use Rattle.std.specs.Prelude.{Bool, List, None, Ok, Option, Some, [], false, if◌then◌else◌, map, option_to_list, true, ℕ, ⊤, ◌++◌, ◌∷◌, ◌≡◌}
+use Rattle.std.specs.Prelude.{Bool, List, None, Ok, Option, Some, [], false, if◌then◌else◌, length, map, option_to_list, true, ℕ, ⊤, ◌++◌, ◌∷◌, ◌≡◌}
 use Rattle.tt_value.specs.declared.value.Row.{Row}
 use Rattle.tt_value.specs.declared.value.Schema.{Schema}
 use Rattle.tt_value.specs.values.Bags.{bag_of}
@@ -8,7 +8,6 @@ use Rattle.tt_sql.specs.asked.Request.{request_in}
 use Rattle.tt_sql.specs.declared.change.Dml.TheVariants as dml
 use Rattle.tt_sql.specs.declared.statement.Statement.{Statement}
 use Rattle.tt_sql.specs.declared.statement.Statement.TheVariants as tree
-use Rattle.tt_history.specs.declared.history.Told.{Told}
 use Rattle.tt_history.specs.declared.reply.Reply.{Reply}
 use Rattle.tt_partition.specs.Cuts.{table_with}
 use Rattle.tt_partition.specs.Table.{Table}
@@ -18,11 +17,13 @@ use Rattle.tt_plain.specs.declared.tally.TallyPin.{TallyPin}
 use Rattle.tt_plain.specs.history.Contents.{rows_numbered}
 use Rattle.tt_plain.specs.law.Bag.{pins_of, seen_in_pins}
 use Rattle.tt_plain.specs.meaning.Outcome.{schema_numbered}
+use Rattle.tt_plain.specs.opening.Point.{change_sources}
 use Rattle.tt_state.specs.Held.{rows_held, schemas_held}
 use Rattle.tt_state.specs.Chronicle.{Chronicle, IsOpenRead, MadeEntry, entry_at, rows_of, store_of}
 use Rattle.tt_state.specs.declared.ticket.Seen.{Seen}
 use Rattle.tt_state.specs.declared.ticket.Started.{Started}
 use Rattle.tt_state.specs.declared.ticket.Ticket.{Ticket}
+use Rattle.tt_catalog.specs.Starts.{told_by}
 use Rattle.tt_history.specs.declared.history.EntryKind.TheVariants as kind
 use Rattle.tt_history.specs.declared.reply.Reply.TheVariants as reply
 use Rattle.tt_state.specs.declared.ticket.Started.TheVariants as started
@@ -92,15 +93,15 @@ abbrev pub BeginsTyped : Statement → Started → Type 0
 BeginsTyped statement (started.Ticket ticket) = typing_refusal (schemas_of ticket) statement ≡ None
 BeginsTyped statement _ = ⊤
 
--- a query that begins holds one table, from which it reads
-abbrev pub HoldsSource : Started → Type 0
-HoldsSource (started.Ticket ticket) = (held : Seen) × (ticket.sources ≡ held ∷ []) × (ticket.target ≡ None)
-HoldsSource _ = ⊤
+-- A query holds the one table from which it reads, and a change its target, and the table from which its query reads if it has one.
+abbrev pub HoldsFor : Statement → List Seen → Option Seen → Type 0
+HoldsFor (tree.Query q) sources target = (held : Seen) × (sources ≡ held ∷ []) × (target ≡ None)
+HoldsFor (tree.Dml d) sources target = (held : Seen) × (target ≡ Some held) × (length sources ≡ length (change_sources d))
+HoldsFor _ sources target = ⊥
 
--- an INSERT of written rows that begins holds its target alone
-abbrev pub HoldsTarget : Started → Type 0
-HoldsTarget (started.Ticket ticket) = (held : Seen) × (ticket.sources ≡ []) × (ticket.target ≡ Some held)
-HoldsTarget _ = ⊤
+abbrev pub HoldsTables : Statement → Started → Type 0
+HoldsTables statement (started.Ticket ticket) = HoldsFor statement ticket.sources ticket.target
+HoldsTables statement _ = ⊤
 
 -- a statement that begins has no reply yet
 abbrev pub reply_to_start : Started → Option Reply
@@ -108,6 +109,7 @@ reply_to_start (started.Ticket ticket) = None
 reply_to_start (started.Refused refusal) = Some (reply.Refused refusal)
 reply_to_start started.Memory = Some reply.Memory
 
+-- the entry tells how it began
 abbrev pub MadeStart : Chronicle → Chronicle → ℕ → ℕ → Started → Type 0
 MadeStart old new session index begun =
-    (told : Told) × MadeEntry old new (entry_at (store_of old).moment session index (kind.Start told)) (reply_to_start begun)
+    MadeEntry old new (entry_at (store_of old).moment session index (kind.Start (told_by begun))) (reply_to_start begun)

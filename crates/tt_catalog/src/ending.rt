@@ -2,7 +2,7 @@
 
 ghost use Rattle.std.specs.Prelude.{◌≡◌, []};
 ghost use Rattle.tt_history.specs.declared.history.EntryKind.TheVariants as kind;
-ghost use Rattle.tt_catalog.specs.Ends.{IsAnswerable, IsOpenTicket, MadeAbandon, MadeEnd};
+ghost use Rattle.tt_catalog.specs.Ends.{CanGiveUp, IsAnswerable, MadeAbandon, MadeEnd};
 
 use crate::closing::{close_query, give_up};
 use std::alloc::Global;
@@ -22,10 +22,11 @@ fn end_without_parts(alloc: Global) -> EntryKind
 }
 
 /// Makes the Abandon entry of an open statement, which then has no effect: its marks end, and it reads no part any
-/// more. Want of memory is the one cause by now. It takes no memory.
-pub fn abandon(cat: &mut Catalog, ticket: Ticket)
-    requires { IsOpenTicket cat.old ticket }
-    ensures { MadeAbandon cat.old cat.new ticket }
+/// more. The cause is want of memory, or the number of the refusal that the statement means over what it sees. It
+/// takes no memory.
+pub fn abandon(cat: &mut Catalog, ticket: Ticket, why: Told)
+    requires { CanGiveUp cat.old ticket why }
+    ensures { MadeAbandon cat.old cat.new ticket why }
 {
     let Ticket {
         session,
@@ -35,7 +36,7 @@ pub fn abandon(cat: &mut Catalog, ticket: Ticket)
     } = ticket;
     let moment = cat.state.moment;
     give_up(&mut cat.state, &cat.program, session, index);
-    let entry = session_entry(moment, session, index, EntryKind::Abandon(Told::Memory));
+    let entry = session_entry(moment, session, index, EntryKind::Abandon(why));
     cat.history.push(entry);
 }
 

@@ -11,4 +11,4 @@ pub mod starting;
 pub use changing::end_change;
 pub use ending::{abandon, end_read};
 pub use refusing::refuse_text;
-pub use starting::{begin_insert, begin_query};
+pub use starting::start;

@@ -1,26 +1,26 @@
-//! How a query, and an INSERT of written rows, begins: with a ticket, or it is refused, or finds no
-//! memory.
+//! How a query or a change begins: with a ticket, or it is refused, or finds no memory.
 
-ghost use Rattle.std.specs.Prelude.{◌≡◌, [], ◌∷◌, IfErr, IfOk, Ok, OnOk, length};
-ghost use Rattle.tt_plain.specs.Statements.{InsertsTuples, insertion};
+ghost use Rattle.std.specs.Prelude.{◌≡◌, ◌∷◌, [], IfErr, IfOk, None, Ok, OnErr, OnOk, Some, length};
+ghost use Rattle.tt_sql.specs.declared.statement.Statement.TheVariants as tree;
+ghost use Rattle.tt_plain.specs.Statements.{insertion};
+ghost use Rattle.tt_plain.specs.Tables.{IsOverOneTable, TakesFromOneTable, tables_of};
 ghost use Rattle.tt_state.specs.Chronicle.{IsNextRead};
 ghost use Rattle.tt_state.specs.Keeps.{ArePartNumbers};
 ghost use Rattle.tt_state.specs.Kept.{kept_of, numbers_now};
 ghost use Rattle.tt_state.specs.Moves.{IsReady};
-ghost use Rattle.tt_sql.specs.declared.statement.Statement.TheVariants as statement;
-ghost use Rattle.tt_catalog.specs.Starts.{HasAllParts, InsertOpens, InsertStays, IsFreeInsert, IsFreeQuery, IsInsertRefusal, IsQueryRefusal, IsStarted, IsTableChanged, IsTableRead, QueryOpens, QueryStays, StartsInsert, StartsQuery, held_empty, held_whole, pin_whole, told_by};
-ghost use Rattle.tt_catalog.specs.Tickets.{BeginsTyped, GivesTicket, HoldsSource, HoldsTarget, MadeStart};
+ghost use Rattle.tt_catalog.specs.Starts.{AreFreeFor, AreRefusedFor, CanChange, CanStart, ChangesIn, FillsIn, HasAllParts, InsertsIn, IsFreeFor, IsLiveTable, IsQueryOrChange, IsRefusedFor, IsStarted, OpensIn, ReadsIn, SharesIn, Starts, StaysIn, Takes, TakesIn, change_refusal, held_empty, held_whole, insert_refusal, lock_held_on, pin_whole, refusal_alone, refusal_both, refusal_kept, start_refusal, told_by, with_shared_pin};
+ghost use Rattle.tt_catalog.specs.Tickets.{BeginsTyped, GivesTicket, HoldsTables, MadeStart};
 
 use std::alloc::{AllocError, AllocFailed, Global};
 use tt_history::{EntryKind, Refusal, Told};
 use tt_plain::tally::TallyPin;
 use tt_script::Program;
-use tt_sql::{Insert, Query, Tuple};
+use tt_sql::{Dml, Insert, InsertSource, Statement};
 use tt_state::entries::session_entry;
 use tt_state::lookup::share_parts;
 use tt_state::{Catalog, Seen, Started, State, StoredPart, TableState, Ticket};
-use tt_typer::{check_query, check_values, table_begin};
-use tt_value::Sequence;
+use tt_typer::{check, table_begin};
+use tt_value::{Sequence, TableName};
 
 // Why a statement does not begin.
 #[derive(Drop)]
@@ -59,41 +59,61 @@ impl<T: Drop> From<AllocFailed<T>> for Unopened {
     }
 }
 
-// The table that a query reads, or why the query is refused over it.
-fn table_read<'a>(state: &'a State, query: &Query) -> Result<&'a TableState, Refusal>
-    requires { query.now.joins ≡ [] }
-    ensures live { IfOk result (λ table. IsTableRead (kept_of state.now) query.now table.now) }
-    ensures free { OnOk result (IsFreeQuery (kept_of state.now) query.now) }
-    ensures refused { IfErr result (IsQueryRefusal (kept_of state.now) query.now) }
+// ---- the tables of a statement
+
+// The one table of a statement, or why the statement is refused over it.
+fn table_over<'a>(
+    state: &'a State,
+    name: &TableName,
+    statement: &Statement,
+) -> Result<&'a TableState, Refusal>
+    requires one { tables_of statement.now ≡ name.now ∷ [] }
+    requires alone { IsOverOneTable statement.now }
+    ensures live { IfOk result (λ table. IsLiveTable (kept_of state.now) name.now table.now) }
+    ensures free { OnOk result (IsFreeFor (kept_of state.now) name.now statement.now) }
+    ensures refused { IfErr result (IsRefusedFor (kept_of state.now) name.now statement.now) }
 {
-    let Some(table) = state.live_table(&query.first.table.name.text) else {
-        return Err(Refusal::UnknownTable(table_begin(&query.first.table)));
+    let Some(table) = state.live_table(&name.name.text) else {
+        return Err(Refusal::UnknownTable(table_begin(name)));
     };
-    match check_query(query, &[&table.schema]) {
+    match check(statement, &[&table.schema]) {
         Ok(()) => Ok(table),
         Err(refusal) => Err(refusal),
     }
 }
 
-// The table that an INSERT of these written rows changes, or why the INSERT is refused over it.
-fn table_changed<'a>(
+// The two tables of a statement, the one that it changes first, or why it is refused over them.
+fn tables_over<'a>(
     state: &'a State,
-    insert: &Insert,
-    tuples: &[Tuple],
-) -> Result<&'a TableState, Refusal>
-    requires { InsertsTuples insert.now tuples.now }
-    ensures live { IfOk result (λ table. IsTableChanged (kept_of state.now) insert.now table.now) }
-    ensures free { OnOk result (IsFreeInsert (kept_of state.now) insert.now) }
-    ensures refused { IfErr result (IsInsertRefusal (kept_of state.now) insert.now) }
+    target: &TableName,
+    source: &TableName,
+    statement: &Statement,
+) -> Result<(&'a TableState, &'a TableState), Refusal>
+    requires two { tables_of statement.now ≡ target.now ∷ source.now ∷ [] }
+    requires alone { IsOverOneTable statement.now }
+    ensures target { IfOk result (λ found. IsLiveTable (kept_of state.now) target.now found.0.now) }
+    ensures source { IfOk result (λ found. IsLiveTable (kept_of state.now) source.now found.1.now) }
+    ensures free { OnOk result (AreFreeFor (kept_of state.now) target.now source.now statement.now) }
+    ensures refused { IfErr result
+        (AreRefusedFor (kept_of state.now) target.now source.now statement.now) }
 {
-    let Some(table) = state.live_table(&insert.table.name.text) else {
-        return Err(Refusal::UnknownTable(table_begin(&insert.table)));
-    };
-    match check_values(insert, tuples, &table.schema) {
-        Ok(()) => Ok(table),
-        Err(refusal) => Err(refusal),
+    let table = state.live_table(&target.name.text);
+    let read = state.live_table(&source.name.text);
+    match (table, read) {
+        (Some(table), Some(read)) => match check(statement, &[&table.schema, &read.schema]) {
+            Ok(()) => Ok((table, read)),
+            Err(refusal) => Err(refusal),
+        },
+        (Some(_), None) => Err(Refusal::UnknownTable(table_begin(source))),
+        (None, Some(_)) => Err(Refusal::UnknownTable(table_begin(target))),
+        (None, None) => {
+            let first = table_begin(target).min(table_begin(source));
+            Err(Refusal::UnknownTable(first))
+        }
     }
 }
+
+// ---- what is held of them
 
 // A table with all its current parts, each with one more owner, and the numbers of these. No row is
 // copied.
@@ -126,15 +146,15 @@ fn hold_empty(alloc: Global, table: &TableState) -> Result<Seen, AllocError>
     })
 }
 
-// The sources of a query of one table, and the pin that keeps its parts.
+// A table with all its current parts, and the pin that keeps them.
 fn pin_table(
     alloc: Global,
     parts: &[StoredPart],
     session: u32,
     table: &TableState,
-) -> Result<(Sequence<Seen>, TallyPin), AllocError>
+) -> Result<(Seen, TallyPin), AllocError>
     requires { ArePartNumbers (length parts.now) (numbers_now table.now) }
-    ensures sources { IfOk result (λ opened. opened.0 ≡ held_whole parts.now table.now ∷ []) }
+    ensures seen { IfOk result (λ opened. opened.0 ≡ held_whole parts.now table.now) }
     ensures pin { IfOk result (λ opened. opened.1 ≡ pin_whole session table.now) }
 {
     let (seen, numbers) = hold_whole(alloc, parts, table)?;
@@ -143,79 +163,276 @@ fn pin_table(
         table: table.facts.number,
         parts: numbers,
     };
-    let mut sources = Sequence::new(alloc);
-    sources.push(seen)?;
-    Ok((sources, pin))
+    Ok((seen, pin))
 }
 
-// Opens a query: its table is pinned. Where it does not begin nothing changes.
-fn open_read(state: &mut State, session: u32, query: &Query) -> Result<Sequence<Seen>, Unopened>
-    requires parts { HasAllParts (kept_of state.old) }
-    requires alone { query.now.joins ≡ [] }
-    ensures opened { IfOk result (QueryOpens state.old state.new session query.now) }
-    ensures unopened { IfErr result (QueryStays state.old state.new query.now) }
+// The sources of a query of one table.
+fn one_source(alloc: Global, seen: Seen) -> Result<Sequence<Seen>, AllocError>
+    ensures { IfOk result (λ sources. sources ≡ seen ∷ []) }
 {
-    let table = table_read(state, query)?;
-    let (sources, pin) = pin_table(*state.tables.allocator(), &state.parts, session, table)?;
+    let mut sources = Sequence::new(alloc);
+    sources.push(seen)?;
+    Ok(sources)
+}
+
+// Both for an INSERT with a query: the sources, the target without its parts, and the pin.
+fn hold_filled(
+    alloc: Global,
+    parts: &[StoredPart],
+    session: u32,
+    table: &TableState,
+    read: &TableState,
+) -> Result<(Sequence<Seen>, Seen, TallyPin), AllocError>
+    requires { ArePartNumbers (length parts.now) (numbers_now read.now) }
+    ensures sources { IfOk result (λ opened. opened.0 ≡ held_whole parts.now read.now ∷ []) }
+    ensures target { IfOk result (λ opened. opened.1 ≡ held_empty table.now) }
+    ensures pin { IfOk result (λ opened. opened.2 ≡ pin_whole session read.now) }
+{
+    let (seen, pin) = pin_table(alloc, parts, session, read)?;
+    let sources = one_source(alloc, seen)?;
+    let target = hold_empty(alloc, table)?;
+    Ok((sources, target, pin))
+}
+
+// ---- pins and marks
+
+// One more pin, and a shared mark on a table.
+fn share_table(state: &mut State, session: u32, table: u32, pin: TallyPin) -> Result<(), AllocError>
+    ensures ok { OnOk result
+        (kept_of state.new ≡ with_shared_pin (kept_of state.old) session table pin) }
+    ensures err { OnErr result (kept_of state.new ≡ kept_of state.old) }
+{
+    state.marks.reserve()?;
+    state.pins.push(pin)?;
+    state.marks.share(session, table);
+    Ok(())
+}
+
+// One more pin, and an exclusive mark on its table, unless another session has one there.
+fn take_table(state: &mut State, session: u32, pin: TallyPin) -> Result<(), Unopened>
+    ensures ok { OnOk result (Takes state.old state.new session pin) }
+    ensures err { IfErr result
+        (StaysIn state.old state.new (lock_held_on (kept_of state.old) session pin.table)) }
+{
+    let table = pin.table;
+    state.marks.reserve()?;
+    state.pins.push(pin)?;
+    match state.marks.try_exclusive(session, table) {
+        Ok(()) => Ok(()),
+        Err(held) => {
+            let _pin = state.pins.pop();
+            Err(Unopened::Refused(Refusal::LockHeld(held.session)))
+        }
+    }
+}
+
+// ---- statements by what they do with their tables
+
+// Opens a query: its table is pinned. Where it does not begin nothing changes.
+fn open_read(
+    state: &mut State,
+    session: u32,
+    name: &TableName,
+    statement: &Statement,
+) -> Result<Sequence<Seen>, Unopened>
+    requires parts { HasAllParts (kept_of state.old) }
+    requires one { tables_of statement.now ≡ name.now ∷ [] }
+    requires alone { IsOverOneTable statement.now }
+    ensures opened { IfOk result (ReadsIn state.old state.new session name.now statement.now) }
+    ensures unopened { IfErr result
+        (StaysIn state.old state.new (refusal_kept (kept_of state.old) name.now statement.now)) }
+{
+    let table = table_over(state, name, statement)?;
+    let alloc = *state.tables.allocator();
+    let (seen, pin) = pin_table(alloc, &state.parts, session, table)?;
+    let sources = one_source(alloc, seen)?;
     state.pins.push(pin)?;
     Ok(sources)
 }
 
-// Opens an INSERT of these written rows: its table is marked. Where it does not begin nothing
-// changes.
-fn open_changed(
+// Opens an INSERT of written rows: its table is marked. Where it does not begin nothing changes.
+fn open_shared(
     state: &mut State,
     session: u32,
-    insert: &Insert,
-    tuples: &[Tuple],
+    name: &TableName,
+    statement: &Statement,
 ) -> Result<Seen, Unopened>
-    requires { InsertsTuples insert.now tuples.now }
-    ensures opened { IfOk result (InsertOpens state.old state.new session insert.now) }
-    ensures unopened { IfErr result (InsertStays state.old state.new insert.now) }
+    requires one { tables_of statement.now ≡ name.now ∷ [] }
+    requires alone { IsOverOneTable statement.now }
+    ensures opened { IfOk result (SharesIn state.old state.new session name.now statement.now) }
+    ensures unopened { IfErr result
+        (StaysIn state.old state.new (refusal_kept (kept_of state.old) name.now statement.now)) }
 {
-    let table = table_changed(state, insert, tuples)?;
+    let table = table_over(state, name, statement)?;
     let target = hold_empty(*state.tables.allocator(), table)?;
     state.marks.reserve()?;
     state.marks.share(session, target.table);
     Ok(target)
 }
 
-// The start of a query but for its entry and its moment.
-fn start_query(state: &mut State, session: u32, index: u32, query: &Query) -> Started
+// Opens an INSERT with a query: the table that it reads is pinned, and its target marked. Where it does
+// not begin nothing changes.
+fn open_filled(
+    state: &mut State,
+    session: u32,
+    name: &TableName,
+    from: &TableName,
+    statement: &Statement,
+) -> Result<(Sequence<Seen>, Seen), Unopened>
     requires parts { HasAllParts (kept_of state.old) }
-    requires alone { query.now.joins ≡ [] }
-    ensures { StartsQuery (kept_of state.old) (kept_of state.new) session index query.now result }
+    requires two { tables_of statement.now ≡ name.now ∷ from.now ∷ [] }
+    requires alone { IsOverOneTable statement.now }
+    ensures opened { IfOk result
+        (FillsIn state.old state.new session name.now from.now statement.now) }
+    ensures unopened { IfErr result
+        (StaysIn state.old state.new
+        (refusal_both (kept_of state.old) name.now from.now statement.now)) }
 {
-    match open_read(state, session, query) {
-        Ok(sources) => Started::Ticket(Ticket {
-            session,
-            index,
-            sources,
-            target: None,
-        }),
-        Err(Unopened::Refused(refusal)) => Started::Refused(refusal),
-        Err(Unopened::Memory) => Started::Memory,
+    let (table, read) = tables_over(state, name, from, statement)?;
+    let alloc = *state.tables.allocator();
+    let (sources, target, pin) = hold_filled(alloc, &state.parts, session, table, read)?;
+    share_table(state, session, target.table, pin)?;
+    Ok((sources, target))
+}
+
+// Opens an UPDATE or a DELETE: its table is pinned, and marked for its session alone. Where it does not
+// begin nothing changes.
+fn open_taken(
+    state: &mut State,
+    session: u32,
+    name: &TableName,
+    statement: &Statement,
+) -> Result<Seen, Unopened>
+    requires parts { HasAllParts (kept_of state.old) }
+    requires one { tables_of statement.now ≡ name.now ∷ [] }
+    requires alone { IsOverOneTable statement.now }
+    ensures opened { IfOk result (TakesIn state.old state.new session name.now statement.now) }
+    ensures unopened { IfErr result
+        (StaysIn state.old state.new
+        (refusal_alone (kept_of state.old) session name.now statement.now)) }
+{
+    let table = table_over(state, name, statement)?;
+    let alloc = *state.tables.allocator();
+    let (target, pin) = pin_table(alloc, &state.parts, session, table)?;
+    take_table(state, session, pin)?;
+    Ok(target)
+}
+
+// ---- statements by their kinds
+
+fn open_insert(
+    state: &mut State,
+    session: u32,
+    insert: &Insert,
+    statement: &Statement,
+) -> Result<(Sequence<Seen>, Seen), Unopened>
+    requires parts { HasAllParts (kept_of state.old) }
+    requires is { statement.now ≡ insertion insert.now }
+    requires alone { TakesFromOneTable insert.now.source }
+    ensures opened { IfOk result (InsertsIn state.old state.new session insert.now) }
+    ensures unopened { IfErr result (StaysIn state.old state.new
+        (insert_refusal (kept_of state.old) insert.now insert.now.source)) }
+{
+    match &insert.source {
+        InsertSource::Values(_) => {
+            let sources = Sequence::new(*state.tables.allocator());
+            match open_shared(state, session, &insert.table, statement) {
+                Ok(target) => Ok((sources, target)),
+                Err(why) => Err(why),
+            }
+        }
+        InsertSource::Query(query) => {
+            open_filled(state, session, &insert.table, &query.first.table, statement)
+        }
     }
 }
 
-// The start of an INSERT of these written rows but for its entry and its moment.
-fn start_insert(
+// An UPDATE or a DELETE reads its target alone.
+fn open_target(
     state: &mut State,
     session: u32,
-    index: u32,
-    insert: &Insert,
-    tuples: &[Tuple],
-) -> Started
-    requires { InsertsTuples insert.now tuples.now }
-    ensures { StartsInsert (kept_of state.old) (kept_of state.new) session index insert.now result }
+    name: &TableName,
+    statement: &Statement,
+) -> Result<(Sequence<Seen>, Seen), Unopened>
+    requires parts { HasAllParts (kept_of state.old) }
+    requires one { tables_of statement.now ≡ name.now ∷ [] }
+    requires alone { IsOverOneTable statement.now }
+    ensures sources { IfOk result (λ held. held.0 ≡ []) }
+    ensures opened { IfOk result
+        (λ held. TakesIn state.old state.new session name.now statement.now held.1) }
+    ensures unopened { IfErr result
+        (StaysIn state.old state.new
+        (refusal_alone (kept_of state.old) session name.now statement.now)) }
 {
     let sources = Sequence::new(*state.tables.allocator());
-    match open_changed(state, session, insert, tuples) {
-        Ok(target) => Started::Ticket(Ticket {
+    match open_taken(state, session, name, statement) {
+        Ok(target) => Ok((sources, target)),
+        Err(why) => Err(why),
+    }
+}
+
+fn open_change(
+    state: &mut State,
+    session: u32,
+    change: &Dml,
+    statement: &Statement,
+) -> Result<(Sequence<Seen>, Seen), Unopened>
+    requires parts { HasAllParts (kept_of state.old) }
+    requires is { statement.now ≡ tree.Dml change.now }
+    requires can { CanChange change.now }
+    ensures opened { IfOk result (ChangesIn state.old state.new session change.now) }
+    ensures unopened { IfErr result
+        (StaysIn state.old state.new (change_refusal (kept_of state.old) session change.now)) }
+{
+    match change {
+        Dml::Insert(insert) => open_insert(state, session, insert, statement),
+        Dml::Update(update) => open_target(state, session, &update.table, statement),
+        Dml::Delete(delete) => open_target(state, session, &delete.table, statement),
+        Dml::Copy(_) => unreachable!(),
+    }
+}
+
+// Where a statement does not begin nothing changes.
+fn open_statement(
+    state: &mut State,
+    session: u32,
+    statement: &Statement,
+) -> Result<(Sequence<Seen>, Option<Seen>), Unopened>
+    requires parts { HasAllParts (kept_of state.old) }
+    requires can { CanStart statement.now }
+    ensures opened { IfOk result (OpensIn state.old state.new session statement.now) }
+    ensures unopened { IfErr result
+        (StaysIn state.old state.new (start_refusal (kept_of state.old) session statement.now)) }
+{
+    match statement {
+        Statement::Query(query) => {
+            match open_read(state, session, &query.first.table, statement) {
+                Ok(sources) => Ok((sources, None)),
+                Err(why) => Err(why),
+            }
+        }
+        Statement::Dml(change) => match open_change(state, session, change, statement) {
+            Ok((sources, target)) => Ok((sources, Some(target))),
+            Err(why) => Err(why),
+        },
+        _ => unreachable!(),
+    }
+}
+
+// ---- starts
+
+// The start of a query or a change but for its entry and its moment.
+fn begin_statement(state: &mut State, session: u32, index: u32, statement: &Statement) -> Started
+    requires parts { HasAllParts (kept_of state.old) }
+    requires can { CanStart statement.now }
+    ensures { Starts (kept_of state.old) (kept_of state.new) session index statement.now result }
+{
+    match open_statement(state, session, statement) {
+        Ok((sources, target)) => Started::Ticket(Ticket {
             session,
             index,
             sources,
-            target: Some(target),
+            target,
         }),
         Err(Unopened::Refused(refusal)) => Started::Refused(refusal),
         Err(Unopened::Memory) => Started::Memory,
@@ -251,43 +468,21 @@ fn tell_start(
     }
 }
 
-/// Makes the Start entry of a session's next statement, which is a query: it begins with a ticket
-/// that holds the parts of its table, or is refused, or finds no memory; in the last two cases it has
-/// ended. It copies no row.
-pub fn begin_query(cat: &mut Catalog, session: u32, index: u32, query: &Query) -> Started
-    requires { IsNextRead cat.old session index (Ok (statement.Query query.now)) }
+/// Makes the Start entry of a session's next statement, which is a query or a change: it begins with a
+/// ticket, or is refused, or finds no memory; in the last two cases it has ended. The ticket holds the
+/// parts of each table that the statement reads, which are those of its target for an UPDATE and a
+/// DELETE; these two have their target for themselves until they end, and are refused where another
+/// session has it so. No row is copied.
+pub fn start(cat: &mut Catalog, session: u32, index: u32, statement: &Statement) -> Started
+    requires next { IsNextRead cat.old session index (Ok statement.now) }
+    requires kind { IsQueryOrChange statement.now }
     ensures entry { MadeStart cat.old cat.new session index result }
-    ensures ticket { GivesTicket cat.new session index (statement.Query query.now) result }
-    ensures typed { BeginsTyped (statement.Query query.now) result }
-    ensures source { HoldsSource result }
+    ensures ticket { GivesTicket cat.new session index statement.now result }
+    ensures typed { BeginsTyped statement.now result }
+    ensures tables { HoldsTables statement.now result }
 {
     let moment = cat.state.moment;
-    let started = start_query(&mut cat.state, session, index, query);
-    let told = tell_start(&mut cat.state, &cat.program, session, index, &started);
-    let entry = session_entry(moment, session, index, EntryKind::Start(told));
-    cat.history.push(entry);
-    started
-}
-
-/// Makes the Start entry of a session's next statement, which is an INSERT of these written rows: it
-/// begins with a ticket that holds no part of its table, or is refused, or finds no memory; in the last
-/// two cases it has ended.
-pub fn begin_insert(
-    cat: &mut Catalog,
-    session: u32,
-    index: u32,
-    insert: &Insert,
-    tuples: &[Tuple],
-) -> Started
-    requires next { IsNextRead cat.old session index (Ok (insertion insert.now)) }
-    requires tuples { InsertsTuples insert.now tuples.now }
-    ensures entry { MadeStart cat.old cat.new session index result }
-    ensures ticket { GivesTicket cat.new session index (insertion insert.now) result }
-    ensures typed { BeginsTyped (insertion insert.now) result }
-    ensures target { HoldsTarget result }
-{
-    let moment = cat.state.moment;
-    let started = start_insert(&mut cat.state, session, index, insert, tuples);
+    let started = begin_statement(&mut cat.state, session, index, statement);
     let told = tell_start(&mut cat.state, &cat.program, session, index, &started);
     let entry = session_entry(moment, session, index, EntryKind::Start(told));
     cat.history.push(entry);

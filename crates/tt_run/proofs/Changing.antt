@@ -1,19 +1,16 @@
 -- What was built for an INSERT is what it means over what its statement sees.
 use Rattle.std.specs.Option.{option_map}
-use Rattle.std.specs.Prelude.{Bool, Err, List, None, Ok, Option, Result, Some, [], false, if◌then◌else◌, length, map, option_to_list, refl, true, ℕ, ◌++◌, ◌+◌, ◌-◌, ◌<◌, ◌^◌, ◌∷◌, ◌≡◌, ◌≤◌}
-use Rattle.std.proofs.Common.{ap, subst, sym, ◌∙◌}
+use Rattle.std.specs.Prelude.{List, None, Option, Some, [], length, map, option_to_list, refl, true, ℕ, ◌++◌, ◌+◌, ◌-◌, ◌<◌, ◌^◌, ◌∷◌, ◌≡◌, ◌≤◌}
+use Rattle.std.proofs.Common.{ap, arith, subst, sym, ◌∙◌}
 use Rattle.std.proofs.lemmas.Option.{none-some, same_Some}
 use Rattle.tt_value.specs.declared.value.Row.{Row}
 use Rattle.tt_value.specs.declared.value.Schema.{Schema}
 use Rattle.tt_script.specs.declared.script.Script.{Script}
-use Rattle.tt_script.specs.Program.{span_of, text_at}
-use Rattle.tt_sql.proofs.text.StatementOf.{is_text_of}
 use Rattle.tt_sql.specs.declared.change.Insert.{Insert}
+use Rattle.tt_sql.specs.declared.change.InsertSource.{InsertSource}
 use Rattle.tt_sql.specs.declared.change.Tuple.{Tuple}
 use Rattle.tt_sql.specs.declared.statement.Statement.{Statement}
 use Rattle.tt_sql.specs.meaning.Changes.{Changed, Changes, insert_change}
-use Rattle.tt_sql.specs.text.StatementOf.{most_levels, statement_of}
-use Rattle.tt_sql.specs.trees.Statements.{IsWrittenStatement}
 use Rattle.tt_history.specs.declared.reply.Refusal.{Refusal}
 use Rattle.tt_partition.specs.Cuts.{cut, kinds_of}
 use Rattle.tt_plain.proofs.Answers.{bind_some, map_some}
@@ -24,13 +21,14 @@ use Rattle.tt_plain.specs.Statements.{InsertsTuples, insertion}
 use Rattle.tt_plain.specs.TypingRefusal.{typing_refusal}
 use Rattle.tt_plain.specs.ValueKinds.{IsFoundByName}
 use Rattle.tt_plain.specs.asked.Asked.{Asked}
-use Rattle.tt_plain.specs.asked.Turns.{asked_with, carried_out, open_asked, statement_read}
+use Rattle.tt_plain.specs.asked.Turns.{asked_with, open_asked}
 use Rattle.tt_plain.specs.declared.store.Plain.{Plain}
 use Rattle.tt_plain.specs.declared.store.PlainOpen.{PlainOpen}
 use Rattle.tt_plain.specs.declared.store.PlainTable.{PlainTable}
 use Rattle.tt_plain.specs.history.Contents.{added_by_outcome, rows_of_change}
 use Rattle.tt_plain.specs.law.Sound.{IsSound}
 use Rattle.tt_plain.specs.meaning.Outcome.{Does, Outcome, change_outcome, change_seen, outcome_of, rows_read, schema_numbered, schemas_read}
+use Rattle.tt_plain.specs.opening.Point.{inserted_sources}
 use Rattle.tt_plain.specs.stored.Tables.{table_numbered}
 use Rattle.tt_built.specs.Built.{built}
 use Rattle.tt_state.proofs.Histories.{in_time, stands_sound, store_is}
@@ -39,6 +37,7 @@ use Rattle.tt_state.specs.Chronicle.{Chronicle, IsOpenRead, rows_of, store_of}
 use Rattle.tt_state.specs.declared.ticket.Built.{Built}
 use Rattle.tt_state.specs.declared.ticket.Seen.{Seen}
 use Rattle.tt_state.specs.declared.ticket.Ticket.{Ticket}
+use Rattle.tt_catalog.proofs.Carried.{read_written}
 use Rattle.tt_catalog.specs.Changes.{IsBuiltFor, change_asked}
 use Rattle.tt_catalog.specs.Tickets.{HasTarget, IsTargetOf, IsTicketOf, schemas_of}
 use Rattle.tt_change.specs.Accepted.{IsAccepted}
@@ -50,22 +49,6 @@ use Rattle.tt_sql.specs.declared.change.InsertSource.TheVariants as source
 use Rattle.tt_sql.specs.declared.statement.Statement.TheVariants as tree
 use Rattle.tt_run.specs.Outcomes.{Stands}
 use Rattle.tt_run.specs.Started.{IsWriting}
-
--- ---- a statement that is carried out was read of a text
-
-ok_carried : (read : Result Statement ℕ) (s : Statement) → carried_out built read ≡ Ok s → read ≡ Ok s
-ok_carried (Err place) s e = cc
-ok_carried (Ok other) s e = ok_if (built.statements other) other s e
-  where
-    ok_if : (test : Bool) (other s : Statement) → if◌then◌else◌ {A = Result Statement ℕ} test (Ok other) (Err 0) ≡ Ok s → ◌≡◌ {A = Result Statement ℕ} (Ok other) (Ok s)
-    ok_if true other s e = e
-    ok_if false other s e = cc
-
-read_written : (program : Script) (session index : ℕ) (s : Statement) → statement_read built program session index ≡ Some (Ok s) → IsWrittenStatement most_levels s
-unfolding statement_read
-read_written program session index s e =
-    let span = map_some (λ span. carried_out built (statement_of (text_at program span))) (span_of program session (index - 1)) (Ok s) e in
-    (is_text_of (text_at program span.0) s (ok_carried (statement_of (text_at program span.0)) s span.2)).written
 
 -- ---- the table of a target
 
@@ -83,6 +66,14 @@ is_writing ticket insert held none is typed = record {
       subst (λ (t : Option Seen). typing_refusal (map (λ (h : Seen). h.schema) (option_to_list t ++ [])) (insertion insert) ≡ None) is
       (subst (λ (s : List Seen). typing_refusal (map (λ (h : Seen). h.schema) (option_to_list ticket.target ++ s)) (insertion insert) ≡ None) none typed);
 }
+
+-- an INSERT of written rows reads no table
+pub no_sources : (insert : Insert) (tuples : List Tuple) (sources : List Seen) → InsertsTuples insert tuples → length sources ≡ length (inserted_sources insert.source) → sources ≡ []
+no_sources insert tuples sources are long = none sources (long ∙ ap (λ (s : InsertSource). length (inserted_sources s)) are)
+  where
+    none : (seen : List Seen) → length seen ≡ 0 → seen ≡ []
+    none [] e = refl
+    none (s ∷ seen) e = absurd (omega (arith, e))
 
 -- the same for the target that is found
 abbrev pub of_held : (ticket : Ticket) (insert : Insert) (held : Seen) → IsWriting ticket insert → ticket.target ≡ Some held → IsWriting ticket insert

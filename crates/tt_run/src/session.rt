@@ -18,10 +18,10 @@ ghost use Rattle.tt_run.specs.Turns.{IsAnswered};
 use std::alloc::{AllocError, Global};
 use tt_agg::AggregateError;
 use tt_built::{plain_create, plain_query};
-use tt_catalog::{abandon, begin_insert, begin_query, end_change, end_read};
+use tt_catalog::{abandon, end_change, end_read, start};
 use tt_catalog_ddl::define;
 use tt_change::insert_written;
-use tt_history::{Reply, SharedRows};
+use tt_history::{Reply, SharedRows, Told};
 use tt_sql::{CreatedTable, Dml, Insert, InsertSource, Query, Statement, Syntax, Tuple};
 use tt_state::{Built, Catalog, Started, Ticket};
 
@@ -52,7 +52,7 @@ fn answer_query(cat: &mut Catalog, alloc: Global, ticket: Ticket, query: &Query)
     ensures { IsAnswered cat.old cat.new ticket.session ticket.index result }
 {
     let Ok(rows) = answer(alloc, &ticket, query) else {
-        abandon(cat, ticket);
+        abandon(cat, ticket, Told::Memory);
         return Reply::Memory;
     };
     end_read(cat, ticket);
@@ -94,13 +94,13 @@ fn change_rows(
     ensures { IsAnswered cat.old cat.new ticket.session ticket.index result }
 {
     let Ok(built) = build(cat, alloc, &ticket, insert, tuples) else {
-        abandon(cat, ticket);
+        abandon(cat, ticket, Told::Memory);
         return Reply::Memory;
     };
     match end_change(cat, ticket, built) {
         Ok(reply) => reply,
         Err(ticket) => {
-            abandon(cat, ticket);
+            abandon(cat, ticket, Told::Memory);
             Reply::Memory
         }
     }
@@ -116,14 +116,23 @@ fn refuse_text(cat: &mut Catalog, session: u32, index: u32, place: u32) -> Reply
     Reply::Refused(tt_catalog::refuse_text(cat, session, index, place))
 }
 
-fn run_query(cat: &mut Catalog, alloc: Global, session: u32, index: u32, query: &Query) -> Reply
-    requires { IsNextAsked cat.old session index (Ok (tree.Query query.now)) }
+// A query, as the statement that it is.
+fn run_query(
+    cat: &mut Catalog,
+    alloc: Global,
+    session: u32,
+    index: u32,
+    query: &Query,
+    statement: &Statement,
+) -> Reply
+    requires next { IsNextAsked cat.old session index (Ok statement.now) }
+    requires query { statement.now ≡ tree.Query query.now }
     ensures { IsAnswered cat.old cat.new session index result }
 {
     if !plain_query(query) {
         return refuse_text(cat, session, index, 0);
     }
-    match begin_query(cat, session, index, query) {
+    match start(cat, session, index, statement) {
         Started::Refused(refusal) => Reply::Refused(refusal),
         Started::Memory => Reply::Memory,
         Started::Ticket(ticket) => answer_query(cat, alloc, ticket, query),
@@ -137,36 +146,56 @@ fn run_values(
     index: u32,
     insert: &Insert,
     tuples: &[Tuple],
+    statement: &Statement,
 ) -> Reply
-    requires next { IsNextRead cat.old session index (Ok (insertion insert.now)) }
+    requires next { IsNextRead cat.old session index (Ok statement.now) }
+    requires insert { statement.now ≡ insertion insert.now }
     requires tuples { InsertsTuples insert.now tuples.now }
     ensures { IsAnswered cat.old cat.new session index result }
 {
-    match begin_insert(cat, session, index, insert, tuples) {
+    match start(cat, session, index, statement) {
         Started::Refused(refusal) => Reply::Refused(refusal),
         Started::Memory => Reply::Memory,
         Started::Ticket(ticket) => change_rows(cat, alloc, ticket, insert, tuples),
     }
 }
 
-fn run_insert(cat: &mut Catalog, alloc: Global, session: u32, index: u32, insert: &Insert) -> Reply
-    requires { IsNextAsked cat.old session index (Ok (insertion insert.now)) }
+fn run_insert(
+    cat: &mut Catalog,
+    alloc: Global,
+    session: u32,
+    index: u32,
+    insert: &Insert,
+    statement: &Statement,
+) -> Reply
+    requires next { IsNextAsked cat.old session index (Ok statement.now) }
+    requires insert { statement.now ≡ insertion insert.now }
     ensures { IsAnswered cat.old cat.new session index result }
 {
     match &insert.source {
         InsertSource::Values(tuples) => {
-            run_values(cat, alloc, session, index, insert, tuples.as_slice())
+            let rows = tuples.as_slice();
+            run_values(cat, alloc, session, index, insert, rows, statement)
         }
         InsertSource::Query(_) => refuse_text(cat, session, index, 0),
     }
 }
 
-fn run_change(cat: &mut Catalog, alloc: Global, session: u32, index: u32, change: &Dml) -> Reply
-    requires { IsNextAsked cat.old session index (Ok (tree.Dml change.now)) }
+// A change, as the statement that it is.
+fn run_change(
+    cat: &mut Catalog,
+    alloc: Global,
+    session: u32,
+    index: u32,
+    change: &Dml,
+    statement: &Statement,
+) -> Reply
+    requires next { IsNextAsked cat.old session index (Ok statement.now) }
+    requires change { statement.now ≡ tree.Dml change.now }
     ensures { IsAnswered cat.old cat.new session index result }
 {
     match change {
-        Dml::Insert(insert) => run_insert(cat, alloc, session, index, insert),
+        Dml::Insert(insert) => run_insert(cat, alloc, session, index, insert, statement),
         _ => refuse_text(cat, session, index, 0),
     }
 }
@@ -200,8 +229,8 @@ fn run_parsed(
     ensures { IsAnswered cat.old cat.new session index result }
 {
     match statement {
-        Statement::Query(query) => run_query(cat, alloc, session, index, query),
-        Statement::Dml(change) => run_change(cat, alloc, session, index, change),
+        Statement::Query(query) => run_query(cat, alloc, session, index, query, statement),
+        Statement::Dml(change) => run_change(cat, alloc, session, index, change, statement),
         Statement::Create(create) => run_create(cat, session, index, create, statement),
         _ => refuse_text(cat, session, index, 0),
     }

@@ -7,4 +7,4 @@ use Rattle.tt_catalog.proofs.starting.open_read.Goals as goal
 pub pin_table-requires : goal.pin_table-requires
 pin_table-requires c =
     subst (λ parts. ArePartNumbers (length parts) (numbers_now c.in_ok-table.table.now)) (sym c.deref.ensures.value)
-    (numbers_there (kept_of c.args.state.now) c.args.query.now.first.table.name.text c.in_ok-table.table.now c.requires.parts c.in_ok-table.ensures.live)
+    (numbers_there (kept_of c.args.state.now) c.args.name.now.name.text c.in_ok-table.table.now c.requires.parts c.in_ok-table.ensures.live)

@@ -1,4 +1,4 @@
-use Rattle.std.proofs.Common.{sym, subst}
+use Rattle.std.proofs.Common.{refl, sym, subst}
 use Rattle.tt_history.specs.declared.history.EntryKind.TheVariants as kind
 use Rattle.tt_history.specs.declared.history.Told.TheVariants as told
 use Rattle.tt_history.specs.declared.reply.Reply.TheVariants as reply
@@ -9,10 +9,10 @@ use Rattle.tt_run.proofs.TurnsLaws.{made_answers}
 use Rattle.tt_run.proofs.session.answer_query.Goals as goal
 
 pub abandon-requires : goal.abandon-requires
-abandon-requires c = (_, c.requires.ticket.seen, c.requires.ticket.is_open)
+abandon-requires c = (reply.Memory, ((_, c.requires.ticket.seen, c.requires.ticket.is_open), refl))
 
 pub returns-in_default : goal.returns-in_default
-returns-in_default c = made_answers _ _ _ _ _ _ tt c.abandon.ensures
+returns-in_default c = made_answers _ _ _ _ _ _ tt (c.abandon.ensures reply.Memory ((_, c.requires.ticket.seen, c.requires.ticket.is_open), refl))
 
 pub end_read-requires : goal.end_read-requires
 end_read-requires c = (c.in-Ok.rows, is_answered c.args.cat.now c.args.ticket c.args.query.now c.in-Ok.rows c.requires.reads c.requires.ticket c.in-Ok.ensures)

@@ -1,0 +1,10 @@
+use Rattle.std.proofs.Common.{length, subst, sym}
+use Rattle.tt_state.specs.Keeps.{ArePartNumbers}
+use Rattle.tt_state.specs.Kept.{kept_of, numbers_now}
+use Rattle.tt_catalog.proofs.Held.{numbers_there}
+use Rattle.tt_catalog.proofs.starting.open_taken.Goals as goal
+
+pub pin_table-requires : goal.pin_table-requires
+pin_table-requires c =
+    subst (λ parts. ArePartNumbers (length parts) (numbers_now c.in_ok-table.table.now)) (sym c.deref.ensures.value)
+    (numbers_there (kept_of c.args.state.now) c.args.name.now.name.text c.in_ok-table.table.now c.requires.parts c.in_ok-table.ensures.live)
