@@ -1,5 +1,6 @@
 pub mod Members
 pub mod Ascending
+pub mod Below
 pub mod Changes
 pub mod Passes
 pub mod ChainLaws

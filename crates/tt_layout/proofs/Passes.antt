@@ -69,7 +69,7 @@ kept_end done xs ys whole (inr p) e =
 
 -- ---- joined
 
-joined_first : (ms : List ℕ) (x : ℕ) (xs : List ℕ) → AscendsFrom (x + 1) ms → joined (x ∷ xs) ms ≡ x ∷ joined xs ms
+pub joined_first : (ms : List ℕ) (x : ℕ) (xs : List ℕ) → AscendsFrom (x + 1) ms → joined (x ∷ xs) ms ≡ x ∷ joined xs ms
 joined_first [] x xs up = refl
 joined_first (m ∷ ms) x xs up =
     ap (λ (l : List ℕ). joined l ms) (with_below m x xs (omega (arith, up.0)))
@@ -87,7 +87,7 @@ joined_same : (x : ℕ) (xs ys : List ℕ) → AscendsFrom (x + 1) xs → joined
 joined_same x xs ys up =
     ap (λ (l : List ℕ). joined l ys) (with_same x x xs refl) ∙ sym (ap (λ (l : List ℕ). joined l ys) (with_first x xs up))
 
-joined_none : (ms : List ℕ) (low : ℕ) → AscendsFrom low ms → joined [] ms ≡ ms
+pub joined_none : (ms : List ℕ) (low : ℕ) → AscendsFrom low ms → joined [] ms ≡ ms
 joined_none [] low up = refl
 joined_none (m ∷ ms) low up = joined_first ms m [] up.1 ∙ ap (λ (l : List ℕ). m ∷ l) (joined_none ms (m + 1) up.1)
 
@@ -125,3 +125,9 @@ joined_end done xs ys whole (inl p) up e =
 joined_end done xs ys whole (inr p) up e =
     let none : ys ≡ [] = empty ys p in
     rw (none, append-nil) (sym (ap (λ (l : List ℕ). done ++ joined xs l) none) ∙ e)
+
+-- where nothing is gone, what was added joins the numbers
+pub nothing_gone : (ns gone added : List ℕ) → length gone ≡ 0 → joined ns added ≡ joined (without gone ns) added
+nothing_gone ns gone added e =
+    let none : gone ≡ [] = empty gone e in
+    ap (λ (l : List ℕ). joined l added) (sym (without_none ns)) ∙ sym (ap (λ (l : List ℕ). joined (without l ns) added) none)

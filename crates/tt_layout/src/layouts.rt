@@ -155,6 +155,9 @@ fn after_change(
     requires added { IsAscending added.now }
     ensures { IfOk result (λ changed_. changed_.items ≡ changed numbers.now gone.now added.now) }
 {
+    if gone.is_empty() {
+        return merged(alloc, numbers, added);
+    }
     let kept = remaining(alloc, numbers, gone)?;
     merged(alloc, &kept, added)
 }

@@ -1,5 +1,5 @@
 //! Ascending lists of part numbers, put together and taken apart in one pass.
-ghost use Rattle.std.specs.Prelude.{◌≡◌, IfOk};
+ghost use Rattle.std.specs.Prelude.{◌≡◌, ◌++◌, true, IfOk};
 ghost use Rattle.tt_layout.specs.Numbers.{IsAscending, without, joined};
 
 use std::alloc::{AllocError, Global};
@@ -32,7 +32,29 @@ pub(crate) fn remaining(
     Ok(kept)
 }
 
-/// The numbers of both lists.
+// Whether each number of the one list is below each of the other.
+fn is_below(left: &[u64], right: &[u64]) -> bool
+    requires left { IsAscending left.now }
+    requires right { IsAscending right.now }
+    ensures { result ≡ true → left.now ++ right.now ≡ joined left.now right.now }
+{
+    match (left.last(), right.first()) {
+        (Some(last), Some(first)) => *last < *first,
+        _ => true,
+    }
+}
+
+// The numbers of the one list, and behind them those of the other.
+fn appended(alloc: Global, left: &[u64], right: &[u64]) -> Result<Vec<u64>, AllocError>
+    ensures { IfOk result (λ numbers. numbers.items ≡ left.now ++ right.now) }
+{
+    let mut numbers = Vec::with_capacity(alloc, left.len() + right.len())?;
+    numbers.extend_from_slice(left)?;
+    numbers.extend_from_slice(right)?;
+    Ok(numbers)
+}
+
+/// The numbers of both lists. Where one is below the other, it is copied as a whole.
 pub(crate) fn merged(
     alloc: Global,
     mut left: &[u64],
@@ -42,7 +64,10 @@ pub(crate) fn merged(
     requires right { IsAscending right.now }
     ensures { IfOk result (λ both. both.items ≡ joined left.now right.now) }
 {
-    let mut both = Vec::with_capacity(alloc, left.len())?;
+    if is_below(left, right) {
+        return appended(alloc, left, right);
+    }
+    let mut both = Vec::with_capacity(alloc, left.len() + right.len())?;
     while let (Some((first, firsts)), Some((second, seconds))) = (
         left.split_first(),
         right.split_first(),
