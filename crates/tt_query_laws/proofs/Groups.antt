@@ -138,7 +138,7 @@ both_on : {A : Type 0} (a b c : Option (List A)) → BothRearrange a b → BothR
 both_on _ _ _ neither neither = neither
 both_on _ _ _ (both xs ys r) (both _ zs s) = both xs zs (chains xs ys zs r s)
 
-all_same : {A : Type 0} (os ps : List (Option A)) → Rearranges os ps → BothRearrange (all_some os) (all_some ps)
+pub all_same : {A : Type 0} (os ps : List (Option A)) → Rearranges os ps → BothRearrange (all_some os) (all_some ps)
 all_same _ _ nothing = both [] [] nothing
 all_same _ _ (keeps o os ps r) = joined o (all_some os) (all_some ps) (all_same os ps r)
 all_same _ _ (exchanges o p os) = exchanged o p (all_some os)
