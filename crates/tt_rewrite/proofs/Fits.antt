@@ -44,8 +44,11 @@ all_unset P (b ∷ bits) [] all = tt
 all_unset P (true ∷ bits) (row ∷ rows) all = all_unset P bits rows all.1
 all_unset P (false ∷ bits) (row ∷ rows) all = (all.0, all_unset P bits rows all.1)
 
+pub part_fits : (schema : Schema) (part : Table) → part.kinds ≡ kinds_of schema → IsPart part → FitSchema schema part.rows
+part_fits schema part kinds is = subst (λ (ks : List Kind). AllByRecursion (λ (row : Row). FitKinds ks row.values) part.rows) kinds (rows_fit part.kinds part.rows is.of_kinds)
+
 -- the rows of a part that stay, behind others
 pub more_fit : (schema : Schema) (part : Table) (bits : List Bool) (old new : List Row) → part.kinds ≡ kinds_of schema → IsPart part → FitSchema schema old → new ≡ old ++ unset bits part.rows → FitSchema schema new
 more_fit schema part bits old new kinds is fit rows =
-    let own : FitSchema schema part.rows = subst (λ (ks : List Kind). AllByRecursion (λ (row : Row). FitKinds ks row.values) part.rows) kinds (rows_fit part.kinds part.rows is.of_kinds) in
+    let own = part_fits schema part kinds is in
     subst (FitSchema schema) (sym rows) (all-append (λ (row : Row). FitKinds (kinds_of schema) row.values) old (unset bits part.rows) fit (all_unset (λ (row : Row). FitKinds (kinds_of schema) row.values) bits part.rows own))

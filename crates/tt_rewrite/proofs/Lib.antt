@@ -1,6 +1,16 @@
+pub mod AllSome
 pub mod Bits
+pub mod CellAt
 pub mod Deleted
+pub mod FirstMissing
 pub mod Fits
+pub mod FitsAgain
+pub mod NewFits
 pub mod Parts
+pub mod Renews
+pub mod RowAt
 pub mod Same
+pub mod SetPlaces
+pub mod Updated
+pub mod WrittenValues
 pub mod Zones

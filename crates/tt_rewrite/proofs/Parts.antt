@@ -68,7 +68,7 @@ module _ (taken : Row → Bool) (stays : Row → List Row) where
   abbrev with_part : List (ℕ × Table) → ℕ × Table → List (ℕ × Table)
   with_part parts part = parts ++ part ∷ []
 
-  left_behind : (parts : List (ℕ × Table)) (part : ℕ × Table) (old new : Left) → AreLeft taken stays parts old → AddsPart taken stays part old new → AreLeft taken stays (with_part parts part) new
+  pub left_behind : (parts : List (ℕ × Table)) (part : ℕ × Table) (old new : Left) → AreLeft taken stays parts old → AddsPart taken stays part old new → AreLeft taken stays (with_part parts part) new
   left_behind parts part old new are adds =
       let both : touched taken (with_part parts part) ≡ touched taken parts ++ touched taken (part ∷ []) = filter-append (λ (p : ℕ × Table). list_any taken p.1.rows) parts (part ∷ []) in
       let rows_both : rows_of (touched taken parts ++ touched taken (part ∷ [])) ≡ rows_of (touched taken parts) ++ rows_of (touched taken (part ∷ [])) = flat_map-append (λ (p : ℕ × Table). p.1.rows) (touched taken parts) (touched taken (part ∷ [])) in

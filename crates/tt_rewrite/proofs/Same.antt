@@ -8,7 +8,7 @@ use Rattle.tt_partition.specs.Table.{Table}
 use Rattle.tt_rewrite.specs.declared.leaving.Left.{Left}
 use Rattle.tt_rewrite.specs.Left.{AreLeft, AreOthers, numbers_of, rows_left, rows_of, touched, unless_taken}
 
-same_filter : {A : Type 0} (p q : A → Bool) → ((x : A) → p x ≡ q x) → (xs : List A) → filter p xs ≡ filter q xs
+pub same_filter : {A : Type 0} (p q : A → Bool) → ((x : A) → p x ≡ q x) → (xs : List A) → filter p xs ≡ filter q xs
 same_filter p q same [] = refl
 same_filter p q same (x ∷ xs) = rw (same x) (ap (λ ys. if q x then x ∷ ys else ys) (same_filter p q same xs))
 

@@ -51,7 +51,7 @@ fn append_unset(found: Vec<Row>, bits: &Bits, rows: &mut Sequence<Row>) -> Resul
 }
 
 // A part that is kept holds rows of its kinds.
-fn holds_rows(partition: &Partition)
+pub fn holds_rows(partition: &Partition)
     ensures { IsPart partition.now }
 {
     let _image = partition.image();
@@ -76,7 +76,7 @@ fn append_others(
 }
 
 // Where the count does not fit 64 bits there is no room for it.
-fn counted(count: u64, more: usize) -> Result<u64, AllocError>
+pub fn counted(count: u64, more: usize) -> Result<u64, AllocError>
     ensures { IfOk result (λ sum. sum ≡ count + more) }
 {
     match count.checked_add(more as u64) {
