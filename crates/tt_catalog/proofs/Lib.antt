@@ -3,7 +3,6 @@ pub mod Changed
 pub mod Cuts
 pub mod Ended
 pub mod Held
-pub mod Inserted
 pub mod Landed
 pub mod Locks
 pub mod Marked
@@ -12,6 +11,8 @@ pub mod Numbered
 pub mod OneTable
 pub mod Opened
 pub mod Refused
+pub mod Replaced
+pub mod Replacing
 pub mod Started
 pub mod Tallied
 pub mod Versions

@@ -7,7 +7,7 @@ use Rattle.std.proofs.lemmas.Option.{none-some, same_Some}
 use Rattle.tt_value.specs.declared.value.Row.{Row}
 use Rattle.tt_history.specs.declared.history.Added.{Added}
 use Rattle.tt_layout.specs.Chain.{current_of, last_begun}
-use Rattle.tt_layout.specs.Numbers.{HasAll, HasNone, IsAscending, has}
+use Rattle.tt_layout.specs.Numbers.{HasNone, IsAscending, has}
 use Rattle.tt_partition.specs.Cuts.{kinds_of}
 use Rattle.tt_partition.specs.Image.{image_of}
 use Rattle.tt_partition.specs.Table.{Table}
@@ -18,7 +18,8 @@ use Rattle.tt_plain.specs.declared.store.Plain.{Plain}
 use Rattle.tt_plain.specs.declared.store.PlainTable.{PlainTable}
 use Rattle.tt_plain.specs.law.Lists.{Every}
 use Rattle.tt_plain.specs.law.Sound.{AreSoundLayouts, IsSound}
-use Rattle.tt_plain.specs.tally.Layouts.{layouts_of}
+use Rattle.tt_plain.specs.tally.Layouts.{current_parts, layouts_of}
+use Rattle.tt_plain_laws.proofs.parts.Numbers.{Within}
 use Rattle.tt_built.specs.Built.{built}
 use Rattle.tt_script.specs.declared.script.Script.{Script}
 use Rattle.tt_state.proofs.Lookups.{number_tied}
@@ -28,6 +29,7 @@ use Rattle.tt_state.specs.declared.part.StoredPart.{StoredPart}
 use Rattle.tt_state.specs.declared.state.TableState.{TableState}
 use Rattle.tt_catalog.proofs.Landed.{current_kept, none_kept}
 use Rattle.tt_catalog.proofs.Numbered.{both_true, range_ascends}
+use Rattle.tt_catalog.proofs.Replaced.{all_within}
 use Rattle.tt_catalog.specs.Changes.{changed_at, facts_from, numbers_behind, stored_from, tables_after, with_landed}
 use Rattle.tt_catalog.specs.Landing.{MayBegin, MayLand, added_as, number_as}
 
@@ -105,22 +107,31 @@ begun_by moment layouts place all = by (slice_get layouts place) refl
     by None e = omega arith
     by (Some ls) e = (every_at (AreSoundLayouts moment) layouts place ls all e).1
 
-pub may_land : (program : Script) (store : Plain) (contents : List (List Row)) (kept : Kept) (table : ℕ) (here : PlainTable) (gone : List ℕ) → IsSound built program store → KeepsTables store.tables store.tally contents kept
-    → kept.moment ≡ store.moment → kept.moment + 1 < 2 ^ 64 → 1 ≤ table → slice_get store.tables (table - 1) ≡ Some here → gone ≡ [] → MayLand kept table gone
-may_land program store contents kept table here gone sound keeps moment early one at none =
+-- each number of a table's current parts is that of a kept part
+pub current_numbers : (program : Script) (store : Plain) (contents : List (List Row)) (kept : Kept) (table : ℕ) (here : PlainTable) → IsSound built program store → KeepsTables store.tables store.tally contents kept
+    → 1 ≤ table → slice_get store.tables (table - 1) ≡ Some here → AreKeptParts kept.parts (kinds_of here.schema) (current_parts store.tally table)
+current_numbers program store contents kept table here sound keeps one at =
     let is = is_table built program store (table - 1) here sound at in
     let numbered : here.number ≡ table = omega (arith, (table_at store.moment (length store.tables) 1 (table - 1) store.tables here sound.tables at).numbered, one) in
     let found : table_kept kept.tables table ≡ Some (table_of store.tally here) = ap (table_kept kept.tables) (sym numbered) ∙ number_tied program store contents kept sound keeps here is in
-    let layouts : List (ℕ × List ℕ) = layouts_of store.tally here.number in
     let kept_here : HasKeptParts kept.parts (table_of store.tally here) =
     every_at (HasKeptParts kept.parts) kept.tables (table - 1) (table_of store.tally here) keeps.layouts (sym (ap (λ b. if b then None else slice_get kept.tables (table - 1)) (ne_eqb table 0 (λ e. omega (arith, e, one)))) ∙ found) in
-    let known = current_kept (AreKeptParts kept.parts (kinds_of here.schema)) layouts (none_kept kept.parts (kinds_of here.schema)) kept_here in
+    subst (λ (n : ℕ). AreKeptParts kept.parts (kinds_of here.schema) (current_parts store.tally n)) numbered
+    (current_kept (AreKeptParts kept.parts (kinds_of here.schema)) (layouts_of store.tally here.number) (none_kept kept.parts (kinds_of here.schema)) kept_here)
+
+pub may_land : (program : Script) (store : Plain) (contents : List (List Row)) (kept : Kept) (table : ℕ) (here : PlainTable) (gone : List ℕ) → IsSound built program store → KeepsTables store.tables store.tally contents kept
+    → kept.moment ≡ store.moment → kept.moment + 1 < 2 ^ 64 → 1 ≤ table → slice_get store.tables (table - 1) ≡ Some here → IsAscending gone → Within gone (current_parts store.tally table) → MayLand kept table gone
+may_land program store contents kept table here gone sound keeps moment early one at ascends inside =
+    let is = is_table built program store (table - 1) here sound at in
+    let numbered : here.number ≡ table = omega (arith, (table_at store.moment (length store.tables) 1 (table - 1) store.tables here sound.tables at).numbered, one) in
+    let found : table_kept kept.tables table ≡ Some (table_of store.tally here) = ap (table_kept kept.tables) (sym numbered) ∙ number_tied program store contents kept sound keeps here is in
+    let known = current_numbers program store contents kept table here sound keeps one at in
     record {
       changed = table_of store.tally here;
       is = found;
       moment = early;
       later = omega (arith, begun_by store.moment store.tally.layouts (here.number - 1) sound.tally.layouts, moment);
-      ascends = subst IsAscending (sym none) tt;
-      among = subst (HasAll (current_of layouts)) (sym none) refl;
-      known = λ number e. ((known number e).0, (known number e).1);
+      ascends = ascends;
+      among = ap (λ n. list_all (has (current_parts store.tally n)) gone) numbered ∙ all_within gone (current_parts store.tally table) inside;
+      known = λ number e. let k = known number (ap (λ n. has (current_parts store.tally n) number) (sym numbered) ∙ e) in (k.0, k.1);
     }

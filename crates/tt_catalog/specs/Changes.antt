@@ -13,7 +13,6 @@ use Rattle.tt_partition.specs.Image.{image_of}
 use Rattle.tt_partition.specs.Table.{Table}
 use Rattle.tt_plain.specs.asked.Asked.{Asked}
 use Rattle.tt_plain.specs.asked.Turns.{asked_with}
-use Rattle.tt_plain.specs.effect.End.{count_reply}
 use Rattle.tt_plain.specs.history.Contents.{rows_of_change}
 use Rattle.tt_plain.specs.history.TrueFacts.{parts_to_replace}
 use Rattle.tt_plain.specs.meaning.Outcome.{Does, outcome_of}
@@ -38,8 +37,7 @@ change_asked chronicle ticket change =
 
 -- What was built for an open change: its count over what the statement sees, the parts that it replaces, and those that it adds,
 -- which are the rows that it gives, cut at the length that the catalog keeps.
-pub record IsBuiltFor (chronicle : Chronicle) (ticket : Ticket) (built : Built) : Type 0 where
-  pub change : Dml
+pub record IsBuiltFor (chronicle : Chronicle) (ticket : Ticket) (change : Dml) (built : Built) : Type 0 where
   pub is_ticket : IsTicketOf chronicle ticket (tree.Dml change)
   pub held : Seen
   pub target : ticket.target ≡ Some held
@@ -68,10 +66,6 @@ change_entry old ticket built =
 
 abbrev pub MadeChange : Chronicle → Chronicle → Ticket → Built → Reply → Type 0
 MadeChange old new ticket built answer = MadeEntry old new (change_entry old ticket built) (Some answer)
-
--- the answer tells the count, of an INSERT how many rows were inserted
-abbrev pub TellsCount : Chronicle → Ticket → Built → Reply → Type 0
-TellsCount old ticket built answer = (is : IsBuiltFor old ticket built) → answer ≡ count_reply is.change built.count
 
 -- ---- what is kept then
 
