@@ -1,0 +1,9 @@
+pub mod Defines
+pub mod Ends
+pub mod Entries
+pub mod Histories
+pub mod Rounds
+pub mod Sessions
+pub mod Spared
+pub mod Starts
+pub mod Targets
