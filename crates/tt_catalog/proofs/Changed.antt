@@ -1,7 +1,7 @@
 -- What is kept where a change has ended: its parts are added, and its table has a further version and layout.
 use Rattle.std.specs.Prelude.{List, None, Ok, Option, Some, [], filter, if◌then◌else◌, length, map, option_map, option_to_list, refl, true, unwrap_or, ℕ, ◌++◌, ◌+◌, ◌==◌, ◌≡◌, ◌≤◌}
 use Rattle.std.proofs.Common.{ap, arith, subst, sym, ◌∙◌}
-use Rattle.std.proofs.lemmas.Bool.{eq-eqb, false≢true}
+use Rattle.std.proofs.lemmas.Bool.{eq-eqb}
 use Rattle.std.proofs.lemmas.List.{length-map}
 use Rattle.std.proofs.lemmas.Option.{none-some, same_Some}
 use Rattle.tt_value.specs.declared.value.Row.{Row}
@@ -17,6 +17,8 @@ use Rattle.tt_plain.proofs.Answers.{map_some}
 use Rattle.tt_script.specs.Lines.{only_if}
 use Rattle.tt_plain.specs.Answers.{◌>>=◌}
 use Rattle.tt_plain.specs.asked.Asked.{Asked, request_asked, state_asked}
+use Rattle.tt_plain.specs.asked.Request.{Writes, request_of}
+use Rattle.tt_plain.specs.asked.Turns.{statement_read}
 use Rattle.tt_plain.specs.declared.store.Plain.{Plain}
 use Rattle.tt_plain.specs.declared.store.PlainOpen.{PlainOpen}
 use Rattle.tt_plain.specs.declared.store.PlainPending.{PlainPending}
@@ -42,9 +44,11 @@ use Rattle.tt_plain.specs.tally.Layouts.{current_parts}
 use Rattle.tt_plain.specs.tally.Parts.{numbers_added, rows_in_added, rows_in_parts}
 use Rattle.tt_plain_laws.proofs.parts.Contents.{Known}
 use Rattle.tt_plain_laws.proofs.parts.Numbers.{Within}
+use Rattle.tt_target_laws.proofs.Histories.{legal_targets}
+use Rattle.tt_target_laws.specs.Targets.{KeepsTargets}
 use Rattle.tt_built.specs.Built.{built, is_built}
 use Rattle.tt_state.proofs.Goes.{GoesOn, added_behind, alone_now, ended_less, idle_now, marks_now, sessions_now}
-use Rattle.tt_state.proofs.Histories.{early}
+use Rattle.tt_state.proofs.Histories.{early, in_time, store_is}
 use Rattle.tt_state.proofs.Pins.{other_pins, own_pins, pins_left}
 use Rattle.tt_state.proofs.Steps.{end_is, end_step}
 use Rattle.tt_state.proofs.TrueFacts.{IsTrueEntry}
@@ -60,7 +64,6 @@ use Rattle.tt_state.specs.declared.ticket.Ticket.{Ticket}
 use Rattle.tt_history.specs.declared.history.Actor.TheVariants as actor
 use Rattle.tt_history.specs.declared.history.EntryKind.TheVariants as kind
 use Rattle.tt_sql.specs.declared.change.Dml.{Dml}
-use Rattle.tt_sql.specs.declared.change.Dml.TheVariants as dml
 use Rattle.tt_sql.specs.declared.statement.Statement.{Statement}
 use Rattle.tt_sql.specs.declared.statement.Statement.TheVariants as tree
 use Rattle.tt_catalog.proofs.Cuts.{all_counted, are_cut, have_kinds, pieces_are_parts, size_of, sizes_told}
@@ -70,7 +73,7 @@ use Rattle.tt_catalog.proofs.Landed.{landed_tables}
 use Rattle.tt_catalog.proofs.MayLand.{current_numbers, may_land}
 use Rattle.tt_catalog.proofs.Numbered.{are_next, both_true, numbers_told}
 use Rattle.tt_catalog.proofs.Replaced.{measured_kept}
-use Rattle.tt_catalog.proofs.Replacing.{IsReplaced, change_replaces, may_go}
+use Rattle.tt_catalog.proofs.Replacing.{IsReplaced, change_replaces, current_seen, may_go}
 use Rattle.tt_catalog.proofs.Tallied.{IsTallied, tallied, tally_after}
 use Rattle.tt_catalog.proofs.Versions.{committed_versions, same_length}
 use Rattle.tt_catalog.specs.Changes.{IsBuiltFor, change_asked, change_entry, facts_from, next_part, numbers_behind, stored_from, with_changed, with_landed}
@@ -102,13 +105,6 @@ pub as_many : (tables : List PlainTable) (tally : Tally) (contents : List (List 
 as_many tables tally contents kept keeps =
     sym (length-map kept.parts (λ (part : StoredPart). part.facts)) ∙ ap (λ (fs : List PartFacts). length fs) keeps.facts
     ∙ length-map (filter (λ (part : TallyPart). part.stored) tally.parts) facts_of_part ∙ ap (λ (ps : List TallyPart). length ps) keeps.whole
-
--- no change that has its table for itself is carried out yet
-never_alone : (d : Dml) → is_built (tree.Dml d) ≡ true → marks_exclusively d ≡ true → ⊥
-never_alone (dml.Insert i) carried e = false≢true e
-never_alone (dml.Update u) carried e = false≢true carried
-never_alone (dml.Delete d) carried e = false≢true carried
-never_alone (dml.Copy c) carried e = false≢true e
 
 -- ---- a change that was built
 
@@ -182,9 +178,18 @@ module _ (chronicle : Chronicle) (kept : Kept) (room : ℕ) (ticket : Ticket) (c
 
   -- ---- what it replaces
 
-  -- where it replaces rows, the parts that it has pinned are in its table still; so far no such change is carried out
+  -- where it replaces rows, the parts that it has pinned are in its table still
   stays : marks_exclusively change ≡ true → Within (parts_pinned store.tally session table) (current_parts store.tally table)
-  stays exclusive = absurd (never_alone change carried exclusive)
+  stays exclusive number e =
+      let run = stands.legal.run in
+      let said : option_map request_of (statement_read built chronicle.program session seen.index) ≡ Some (Writes change) =
+      ap (λ n. option_map request_of (statement_read built chronicle.program session n)) is_opened.numbered ∙ ap (option_map request_of) is_opened.said in
+      let held = subst (KeepsTargets built chronicle.program) (sym (store_is built chronicle.program chronicle.history run stands.legal.replayed))
+      (legal_targets built chronicle.program chronicle.history run (in_time chronicle kept room stands) stands.legal.replayed)
+      session is_opened.state seen change held_target.target is_opened.turn.state_is is_opened.running said exclusive held_target.is in
+      let there = held_target.tied.table in
+      ap (λ n. has (current_parts store.tally n) number) there ∙ ap (λ (ns : List ℕ). has ns number) (sym (current_seen store.tally session held_target.target.0 stands.sessions.settled))
+      ∙ held.inside number (ap (λ n. has (parts_pinned store.tally session n) number) (sym there) ∙ e)
 
   replaced : IsReplaced (rows_of chronicle) asked table change is.removed is.added what.gone given
   replaced =

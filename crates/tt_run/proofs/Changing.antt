@@ -134,9 +134,8 @@ module _ (chronicle : Chronicle) (ticket : Ticket) (insert : Insert) (stands : S
         ∙ ap (λ (c : Changed). Some (change_outcome t.0.0 c)) (whatever_read (schemas_read store is.seen.sources) (rows_read is.seen.sources) ∙ puts.change)
         ∙ ap (λ n. Some (Does n [] puts.rows b.count)) (sym t.2.table)
 
-    pub is_built : IsBuiltFor chronicle ticket b
+    pub is_built : IsBuiltFor chronicle ticket (dml.Insert insert) b
     is_built = record {
-      change = dml.Insert insert;
       is_ticket = is;
       held = writes.held;
       target = writes.target;

@@ -2,6 +2,7 @@
 
 ghost use Rattle.std.specs.Prelude.{◌≡◌, [], ◌∷◌, Err, IfOk, None, Ok, Some, true};
 ghost use Rattle.tt_sql.specs.asked.Request.{as_read};
+ghost use Rattle.tt_sql.specs.declared.change.Dml.TheVariants as dml;
 ghost use Rattle.tt_sql.specs.declared.statement.Statement.TheVariants as tree;
 ghost use Rattle.tt_plain.specs.Statements.{InsertsTuples, insertion};
 ghost use Rattle.tt_plain.specs.TypingRefusal.{typing_refusal};
@@ -72,7 +73,7 @@ fn build(
     requires ticket { IsTicketOf cat.now ticket.now (insertion insert.now) }
     requires writes { IsWriting ticket.now insert.now }
     requires tuples { InsertsTuples insert.now tuples.now }
-    ensures { IfOk result (IsBuiltFor cat.now ticket.now) }
+    ensures { IfOk result (IsBuiltFor cat.now ticket.now (dml.Insert insert.now)) }
 {
     stands(cat);
     let Some(seen) = &ticket.target else {
@@ -85,10 +86,12 @@ fn change_rows(
     cat: &mut Catalog,
     alloc: Global,
     ticket: Ticket,
+    change: &Dml,
     insert: &Insert,
     tuples: &[Tuple],
 ) -> Reply
     requires ticket { IsTicketOf cat.old ticket (insertion insert.now) }
+    requires change { change.now ≡ dml.Insert insert.now }
     requires writes { IsWriting ticket insert.now }
     requires tuples { InsertsTuples insert.now tuples.now }
     ensures { IsAnswered cat.old cat.new ticket.session ticket.index result }
@@ -97,7 +100,7 @@ fn change_rows(
         abandon(cat, ticket, Told::Memory);
         return Reply::Memory;
     };
-    match end_change(cat, ticket, built) {
+    match end_change(cat, ticket, change, built) {
         Ok(reply) => reply,
         Err(ticket) => {
             abandon(cat, ticket, Told::Memory);
@@ -144,19 +147,21 @@ fn run_values(
     alloc: Global,
     session: u32,
     index: u32,
+    change: &Dml,
     insert: &Insert,
     tuples: &[Tuple],
     statement: &Statement,
 ) -> Reply
     requires next { IsNextRead cat.old session index (Ok statement.now) }
     requires insert { statement.now ≡ insertion insert.now }
+    requires change { change.now ≡ dml.Insert insert.now }
     requires tuples { InsertsTuples insert.now tuples.now }
     ensures { IsAnswered cat.old cat.new session index result }
 {
     match start(cat, session, index, statement) {
         Started::Refused(refusal) => Reply::Refused(refusal),
         Started::Memory => Reply::Memory,
-        Started::Ticket(ticket) => change_rows(cat, alloc, ticket, insert, tuples),
+        Started::Ticket(ticket) => change_rows(cat, alloc, ticket, change, insert, tuples),
     }
 }
 
@@ -165,17 +170,19 @@ fn run_insert(
     alloc: Global,
     session: u32,
     index: u32,
+    change: &Dml,
     insert: &Insert,
     statement: &Statement,
 ) -> Reply
     requires next { IsNextAsked cat.old session index (Ok statement.now) }
     requires insert { statement.now ≡ insertion insert.now }
+    requires change { change.now ≡ dml.Insert insert.now }
     ensures { IsAnswered cat.old cat.new session index result }
 {
     match &insert.source {
         InsertSource::Values(tuples) => {
             let rows = tuples.as_slice();
-            run_values(cat, alloc, session, index, insert, rows, statement)
+            run_values(cat, alloc, session, index, change, insert, rows, statement)
         }
         InsertSource::Query(_) => refuse_text(cat, session, index, 0),
     }
@@ -195,7 +202,7 @@ fn run_change(
     ensures { IsAnswered cat.old cat.new session index result }
 {
     match change {
-        Dml::Insert(insert) => run_insert(cat, alloc, session, index, insert, statement),
+        Dml::Insert(insert) => run_insert(cat, alloc, session, index, change, insert, statement),
         _ => refuse_text(cat, session, index, 0),
     }
 }

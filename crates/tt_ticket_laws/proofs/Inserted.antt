@@ -55,11 +55,10 @@ module _ (chronicle : Chronicle) (ticket : Ticket) (insert : Insert) (held : See
   unfolding change_seen
   outcome_is c e = means chronicle ticket (dml.Insert insert) held target is ∙ ap (λ (c : Changed). Some (change_outcome held.table c)) (same_change ∙ e)
 
-  pub inserted : (b : Built) → PutsIn (insert_change held.schema (schemas_held ticket.sources) (rows_of_first ticket.sources) insert) (kinds_of held.schema) chronicle.cap b → IsBuiltFor chronicle ticket b
+  pub inserted : (b : Built) → PutsIn (insert_change held.schema (schemas_held ticket.sources) (rows_of_first ticket.sources) insert) (kinds_of held.schema) chronicle.cap b → IsBuiltFor chronicle ticket (dml.Insert insert) b
   inserted b puts =
       let outcome = outcome_is (Changes [] puts.rows b.count) puts.change in
       record {
-        change = dml.Insert insert;
         is_ticket = is;
         held = held;
         target = target;

@@ -39,10 +39,9 @@ module _ (chronicle : Chronicle) (ticket : Ticket) (delete : Delete) (held : See
       counted (delete_change held.schema (rows_held held) delete) (delete_change held.schema rows delete) deletes.removed [] b.count deletes.change
       (delete_alike held.schema (rows_held held) rows delete (same_bag chronicle ticket (dml.Delete delete) held target is is.pinned is.bags))
 
-  pub deleted : IsBuiltFor chronicle ticket b
+  pub deleted : IsBuiltFor chronicle ticket (dml.Delete delete) b
   unfolding change_seen
   deleted = record {
-    change = dml.Delete delete;
     is_ticket = is;
     held = held;
     target = target;

@@ -48,9 +48,8 @@ module _ (chronicle : Chronicle) (ticket : Ticket) (update : Update) (held : See
     does : AreAlike (Changes updates.removed updates.added b.count) (update_change held.schema rows update)
     does = counted (update_change held.schema (rows_held held) update) (update_change held.schema rows update) updates.removed updates.added b.count updates.change alike
 
-    pub updated : IsBuiltFor chronicle ticket b
+    pub updated : IsBuiltFor chronicle ticket (dml.Update update) b
     updated = record {
-      change = dml.Update update;
       is_ticket = is;
       held = held;
       target = target;

@@ -46,13 +46,13 @@ FailsAs chronicle ticket _ = ⊤
 
 abbrev pub DeletesAsSeen : Type 0
 DeletesAsSeen = (chronicle : Chronicle) (ticket : Ticket) (delete : Delete) (held : Seen) → IsTicketOf chronicle ticket (tree.Dml (dml.Delete delete)) →
-    ticket.target ≡ Some held → (b : Built) → Deletes held delete chronicle.cap b → IsBuiltFor chronicle ticket b
+    ticket.target ≡ Some held → (b : Built) → Deletes held delete chronicle.cap b → IsBuiltFor chronicle ticket (dml.Delete delete) b
 
 abbrev pub InsertsAsSeen : Type 0
 InsertsAsSeen = (chronicle : Chronicle) (ticket : Ticket) (insert : Insert) (held : Seen) → IsTicketOf chronicle ticket (tree.Dml (dml.Insert insert)) →
     ticket.target ≡ Some held → typing_refusal (schemas_of ticket) (tree.Dml (dml.Insert insert)) ≡ None → (b : Built) →
     PutsIn (insert_change held.schema (schemas_held ticket.sources) (rows_of_first ticket.sources) insert) (kinds_of held.schema) chronicle.cap b →
-    IsBuiltFor chronicle ticket b
+    IsBuiltFor chronicle ticket (dml.Insert insert) b
 
 abbrev pub InsertsFailAsSeen : Type 0
 InsertsFailAsSeen = (chronicle : Chronicle) (ticket : Ticket) (insert : Insert) (held : Seen) → IsTicketOf chronicle ticket (tree.Dml (dml.Insert insert)) →
@@ -61,7 +61,7 @@ InsertsFailAsSeen = (chronicle : Chronicle) (ticket : Ticket) (insert : Insert) 
 
 abbrev pub UpdatesAsSeen : Type 0
 UpdatesAsSeen = (chronicle : Chronicle) (ticket : Ticket) (update : Update) (held : Seen) → IsTicketOf chronicle ticket (tree.Dml (dml.Update update)) →
-    ticket.target ≡ Some held → (b : Built) → Updates held update chronicle.cap b → IsBuiltFor chronicle ticket b
+    ticket.target ≡ Some held → (b : Built) → Updates held update chronicle.cap b → IsBuiltFor chronicle ticket (dml.Update update) b
 
 abbrev pub UpdatesFailAsSeen : Type 0
 UpdatesFailAsSeen = (chronicle : Chronicle) (ticket : Ticket) (update : Update) (held : Seen) → IsTicketOf chronicle ticket (tree.Dml (dml.Update update)) →

@@ -10,6 +10,9 @@ use Rattle.tt_run.proofs.session.run_change.Goals as goal
 pub run_insert-requires-clause-insert : goal.run_insert-requires-clause-insert
 run_insert-requires-clause-insert c = c.requires.change ∙ ap tree.Dml c.in-Insert.is
 
+pub run_insert-requires-clause-change : goal.run_insert-requires-clause-change
+run_insert-requires-clause-change c = c.in-Insert.is
+
 pub refuse_text-requires : goal.refuse_text-requires
 refuse_text-requires c =
     c.requires.next
