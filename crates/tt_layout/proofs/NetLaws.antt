@@ -58,6 +58,17 @@ net_step ps first at gone added gone' added' chain low bound up before p q =
     ∙ changed_back (numbers_at (layouts_from [] ps) at) (numbers_at (layouts_from [] ps) (suc at)) (numbers_ascend ps at chain (omega arith)) (numbers_ascend ps (suc at) chain bound)
     ∙ ap (numbers_at (layouts_from [] ps)) (sym (add-one at))
 
+-- the changes so far and one more are one change of the full list
+pub one_more : (base before gone added less more gone' added' : List ℕ) → IsAscending base → IsAscending added → IsAscending more
+    → changed base gone added ≡ before
+    → gone' ≡ joined gone less → added' ≡ joined (without less added) more
+    → changed base gone' added' ≡ changed before less more
+one_more base before gone added less more gone' added' high up ascends e p q =
+    ap (λ (l : List ℕ). changed base l added') p
+    ∙ ap (λ (l : List ℕ). changed base (joined gone less) l) q
+    ∙ sym (changed_twice base gone added less more high up ascends)
+    ∙ ap (λ (l : List ℕ). changed l less more) e
+
 -- no change
 without_none : (ns : List ℕ) → without [] ns ≡ ns
 without_none [] = refl

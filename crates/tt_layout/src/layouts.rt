@@ -3,7 +3,7 @@ ghost use Rattle.std.specs.Prelude.{◌≡◌, ℕ, ◌+◌, ◌%◌, ◌<◌, �
 ghost use Rattle.tt_layout.specs.Numbers.{IsAscending, HasAll, HasNone, changed, without, joined};
 ghost use Rattle.tt_layout.specs.Chain.{AreLayouts, IsChain, current_of, last_begun, layout_at, with_change, without_last, pieces_of, piece_given, layouts_from, numbers_at, begun_at};
 
-use crate::numbers::{merged, remaining};
+use crate::numbers::{merged, put_behind, remaining};
 use crate::piece::Piece;
 use std::alloc::{AllocError, Global};
 use std::marker::Model;
@@ -105,26 +105,22 @@ impl Layouts {
     {
         let alloc = *self.pieces.allocator();
         if self.pieces().len() % STRIDE == 0 {
-            full_piece(alloc, &self.current()?, gone, added)
+            let numbers = self.next_numbers(gone, added)?;
+            Ok(Piece::Full(Sequence::from_vec(numbers)))
         } else {
             change_piece(alloc, gone, added)
         }
     }
-}
 
-fn full_piece(
-    alloc: Global,
-    numbers: &[u64],
-    gone: &[u64],
-    added: &[u64],
-) -> Result<Piece, AllocError>
-    requires numbers { IsAscending numbers.now }
-    requires gone { IsAscending gone.now }
-    requires added { IsAscending added.now }
-    ensures { IfOk result (λ piece. piece ≡ Piece.Full (changed numbers.now gone.now added.now)) }
-{
-    let numbers = after_change(alloc, numbers, gone, added)?;
-    Ok(Piece::Full(Sequence::from_vec(numbers)))
+    // The numbers of one more layout. The current ones are not made in between.
+    fn next_numbers(&self, gone: &[u64], added: &[u64]) -> Result<Vec<u64>, AllocError>
+        requires gone_ascends { IsAscending gone.now }
+        requires added_ascends { IsAscending added.now }
+        ensures { IfOk result (λ numbers. numbers.items ≡ changed (current_of self.now) gone.now added.now) }
+    {
+        let alloc = *self.pieces.allocator();
+        numbers_behind(alloc, &self.pieces, self.pieces.len() - 1, gone, added)
+    }
 }
 
 fn change_piece(alloc: Global, gone: &[u64], added: &[u64]) -> Result<Piece, AllocError>
@@ -159,7 +155,7 @@ fn after_change(
         return merged(alloc, numbers, added);
     }
     let kept = remaining(alloc, numbers, gone)?;
-    merged(alloc, &kept, added)
+    put_behind(alloc, kept, added)
 }
 
 // What is gone and what was added over some changes.
@@ -182,6 +178,28 @@ fn numbers_of_place(
     let first = place - place % STRIDE;
     let (_, full) = &pieces[first];
     let net = net_change(alloc, pieces, first, place)?;
+    after_change(alloc, full.full_list(), &net.gone, &net.added)
+}
+
+// The numbers of the layout at a place, changed once more.
+fn numbers_behind(
+    alloc: Global,
+    pieces: &[(u64, Piece)],
+    place: usize,
+    gone: &[u64],
+    added: &[u64],
+) -> Result<Vec<u64>, AllocError>
+    requires chain { IsChain pieces.now }
+    requires place { place < length pieces.now }
+    requires gone { IsAscending gone.now }
+    requires added { IsAscending added.now }
+    ensures { IfOk result (λ numbers. numbers.items
+        ≡ changed (numbers_at (layouts_from [] pieces.now) place) gone.now added.now) }
+{
+    let first = place - place % STRIDE;
+    let (_, full) = &pieces[first];
+    let net = net_change(alloc, pieces, first, place)?;
+    let net = with_change(alloc, net, gone, added)?;
     after_change(alloc, full.full_list(), &net.gone, &net.added)
 }
 

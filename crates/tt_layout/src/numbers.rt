@@ -86,3 +86,20 @@ pub(crate) fn merged(
     both.extend_from_slice(right)?;
     Ok(both)
 }
+
+/// The numbers of both lists. Where the one is below the other, it is given back and nothing of it is copied.
+pub(crate) fn put_behind(
+    alloc: Global,
+    mut left: Vec<u64>,
+    right: &[u64],
+) -> Result<Vec<u64>, AllocError>
+    requires left { IsAscending left.items }
+    requires right { IsAscending right.now }
+    ensures { IfOk result (λ both. both.items ≡ joined left.items right.now) }
+{
+    if is_below(&left, right) {
+        left.extend_from_slice(right)?;
+        return Ok(left);
+    }
+    merged(alloc, &left, right)
+}

@@ -11,7 +11,7 @@ returns-then-is_empty c =
     let none : length c.args.gone.now ≡ 0 = grind (arith, nat_tests) in
     subst (λ numbers. IfOk c.merged.result (λ changed_. changed_.items ≡ numbers)) (nothing_gone c.args.numbers.now c.args.gone.now c.args.added.now none) c.merged.ensures
 
-pub merged-requires-2-clause-left : goal.merged-requires-2-clause-left
-merged-requires-2-clause-left c =
-    rw (c.deref.ensures.value, c.in_ok-kept.ensures)
+pub put_behind-requires-clause-left : goal.put_behind-requires-clause-left
+put_behind-requires-clause-left c =
+    rw c.in_ok-kept.ensures
     (ascends-filter (λ (n : ℕ). not (has c.args.gone.now n)) c.args.numbers.now 0 c.requires.numbers)
